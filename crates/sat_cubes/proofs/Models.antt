@@ -143,9 +143,10 @@ refuted_is f literals old new is adds same sound ends none = record {
     steps = adds.added;
     events_are = adds.events ∙ ap (λ (l : LogState). l.events ++ adds.added) is;
     are_steps = adds.are_steps;
-    sound = sound;
+    valid = sound.valid;
     ends = ends;
   };
+  sound = sound;
   none = λ s lies satisfied. none s (subst (Satisfies s) (sym (given_in_cube f.clauses literals old new is same)) (satisfied_in_cube s f.clauses literals lies satisfied));
 }
 

@@ -8,16 +8,17 @@ use Rattle.cnf_core.specs.Literal.{Literal, negation, IsClause, IsVariable}
 use Rattle.cnf_core.specs.Clauses.{Satisfies}
 use Rattle.cnf_core.specs.Formula.{Cnf}
 use Rattle.cnf_core.specs.Events.{LogEvent, LogState, given, step, clause_of, clauses_of, givens, is_given}
-use Rattle.cnf_core.specs.Steps.{IsValidLog}
+use Rattle.cnf_core.specs.Steps.{IsValidLog, NonEmptyStepsAreEffective, NonEmptyStepsAreNew}
 use Rattle.cnf_core.proofs.Members.{All-from_contains, none_in_nil}
 use Rattle.cnf_core.proofs.Following.{step_follows, clauses_of-push}
 use Rattle.sat_search.specs.Logs.{EndsWithEmptyStep}
 use Rattle.sat_search.proofs.Continued.{sound_givens}
 use Rattle.sat_split.specs.Cubes.{AreCubeVariables, cube_literals, LiesIn, all_given}
-use Rattle.sat_join.specs.Joins.{clause_at, IsRefutedAt, IsJoined, IsJoint, IsOfCubes, Divides, CanJoin}
-use Rattle.sat_cubes.specs.Answers.{IsRefutedIn, IsJoinedLog, IsSatIn, IsUnsat, IsSpentIn}
+use Rattle.sat_join.specs.Joins.{clause_at, IsRefutedAt, IsJoined, IsJoint, IsOfCubes, Divides, CanJoin, KeepsNew}
+use Rattle.sat_cubes.specs.Answers.{IsRefutedIn, IsJoinedLog, IsRefutedWithin, AreRefutedWithin, IsSatIn, IsUnsat, IsSpentIn}
 use Rattle.sat_cubes.specs.Solving.{IsModelIn, IsRefuted, IsSpentLog, IsSoFar, IsSolved, IsOpen, AreSolved, AreRefuted}
 use Rattle.sat_cubes.specs.declared.solving.Solved.{Solved}
+use Rattle.sat_cubes.specs.declared.solving.Solved.TheVariants.{Unsat}
 use Rattle.ep_base.specs.declared.errors.Memory.{Memory}
 use Rattle.sat_cubes.proofs.Models.{all_are_given, givens-given, givens-append}
 
@@ -40,12 +41,12 @@ so_far_none f vars joined are divides is =
           events_are = sym (append-nil (all_given f.clauses));
           are_steps = All-nil (λ e. is_given e ≡ false);
           valid = sound.valid;
-          new = sound.new;
           are_clauses = subst (All IsClause) (sym (clauses-given f.clauses)) are;
         };
         refuted = λ c below. absurd (omega (arith, below));
         origins = subst (All (IsOfCubes f.clauses vars 0)) (sym (clauses-given f.clauses)) (All-from_contains (IsOfCubes f.clauses vars 0) f.clauses (λ c found. inl found));
       };
+      new = sound.new;
       none_below = λ c below. absurd (omega (arith, below));
       within = omega arith;
       notes = refl;
@@ -62,10 +63,11 @@ may_join f vars ends joined refuted so_far within is = record {
 
 -- one more is
 pub so_far_more : (f : Cnf) (vars ends more : List ℕ) (joined new refuted : LogState) → IsSoFar f vars ends joined → length ends < 2 ^ length vars → IsRefuted f (cube_literals (length ends) vars) refuted
-    → IsJoint f.clauses vars more new.events → length more ≡ length ends + 1 → new.notes ≡ joined.notes → new.base ≡ joined.base → IsSoFar f vars more new
-so_far_more f vars ends more joined new refuted so_far within is joint count notes base = record {
+    → IsJoint f.clauses vars more new.events → (NonEmptyStepsAreEffective refuted.events → KeepsNew joined.events new.events) → length more ≡ length ends + 1 → new.notes ≡ joined.notes → new.base ≡ joined.base → IsSoFar f vars more new
+so_far_more f vars ends more joined new refuted so_far within is joint keeps count notes base = record {
   divides = so_far.divides;
   joint = joint;
+  new = keeps is.sound.effective so_far.new;
   none_below = λ c below. elim (cases_lt c (length ends)) [
     | inl before ↦ so_far.none_below c before
     | inr after ↦ subst (λ (n : ℕ). (s : ℕ → Bool) → LiesIn (cube_literals n vars) s → Satisfies s f.clauses → ⊥) (let e : length ends ≡ c = omega (arith, below, after, count) in e) is.none
@@ -74,6 +76,21 @@ so_far_more f vars ends more joined new refuted so_far within is joint count not
   notes = notes ∙ so_far.notes;
   base = base ∙ so_far.base;
 }
+
+-- so is one more within the budget, as a wave has it
+pub within_more : (f : Cnf) (vars ends more : List ℕ) (first budget : ℕ) (wave : List (Result Solved Memory)) (i : ℕ) (d : Result Solved Memory) (log : LogState) → AreSolved f vars first budget wave → i < length wave → get_or wave i d ≡ Ok (Unsat log)
+    → length ends ≡ first + i → length more ≡ length ends + 1 → AreRefutedWithin f.clauses vars (length ends) budget → AreRefutedWithin f.clauses vars (length more) budget
+within_more f vars ends more first budget wave i d log are below is at count so_far = λ c before. elim (cases_lt c (length ends)) [
+  | inl lower ↦ so_far c lower
+  | inr here ↦
+      let it = subst (λ (r : Result Solved Memory). IfOk r (λ s. IsSolved f (cube_literals (first + i) vars) budget s)) is (are i d below) in
+      subst (λ (n : ℕ). IsRefutedWithin f.clauses (cube_literals n vars) budget) (let e : first + i ≡ c = omega (arith, before, here, at, count) in e)
+      (record { events = log.events; refutation = it.0.refutation; sound = it.0.sound; within = it.1 })
+]
+
+-- no cube is below the first
+pub within_none : (clauses : List (List Literal)) (vars : List ℕ) (budget : ℕ) → AreRefutedWithin clauses vars 0 budget
+within_none clauses vars budget = λ c below. absurd (omega (arith, below))
 
 -- an event at a place is one of the log
 refuted_in : (events : List LogEvent) (literals : List Literal) (place : ℕ) → IsRefutedAt events literals place → IsRefutedIn events literals
@@ -89,22 +106,25 @@ joined_log f vars ends joined so_far = record {
   events_are = so_far.joint.joined.events_are;
   are_steps = so_far.joint.joined.are_steps;
   valid = so_far.joint.joined.valid;
-  new = so_far.joint.joined.new;
+  new = so_far.new;
   refuted = λ c below. refuted_in joined.events (cube_literals c vars) (get_or ends c 0) (so_far.joint.refuted c below);
 }
 
-pub ends_sat : (f : Cnf) (vars ends : List ℕ) (values : List Bool) (joined : LogState) → IsSoFar f vars ends joined → length ends < 2 ^ length vars → IsModelIn f (cube_literals (length ends) vars) values → IsSatIn f vars (length ends) values joined.events
-ends_sat f vars ends values joined so_far within is = record {
+pub ends_sat : (f : Cnf) (vars ends : List ℕ) (budget : ℕ) (values : List Bool) (joined : LogState) → IsSoFar f vars ends joined → AreRefutedWithin f.clauses vars (length ends) budget → length ends < 2 ^ length vars
+    → IsModelIn f (cube_literals (length ends) vars) values → IsSatIn f vars (length ends) budget values joined.events
+ends_sat f vars ends budget values joined so_far refuted within is = record {
   is_cube = within;
   count = is.count;
   satisfies = is.satisfies;
   lies_in = is.lies_in;
   none_below = so_far.none_below;
+  refuted_within = refuted;
   joined = joined_log f vars ends joined so_far;
 }
 
-pub ends_spent : (f : Cnf) (vars ends : List ℕ) (budget : ℕ) (joined log : LogState) → IsSoFar f vars ends joined → length ends < 2 ^ length vars → IsSpentLog f (cube_literals (length ends) vars) budget log → IsSpentIn f vars (length ends) budget log.events
-ends_spent f vars ends budget joined log so_far within is = record {
+pub ends_spent : (f : Cnf) (vars ends : List ℕ) (budget : ℕ) (joined log : LogState) → IsSoFar f vars ends joined → AreRefutedWithin f.clauses vars (length ends) budget → length ends < 2 ^ length vars
+    → IsSpentLog f (cube_literals (length ends) vars) budget log → IsSpentIn f vars (length ends) budget log.events
+ends_spent f vars ends budget joined log so_far refuted within is = record {
   is_cube = within;
   steps = is.steps;
   events_are = is.events;
@@ -113,6 +133,7 @@ ends_spent f vars ends budget joined log so_far within is = record {
   spent = is.spent;
   none_empty = is.none_empty;
   none_below = so_far.none_below;
+  refuted_within = refuted;
 }
 
 no_givens : (steps : List LogEvent) → All (λ e. is_given e ≡ false) steps → givens steps ≡ []
@@ -120,17 +141,18 @@ no_givens [] all = refl
 no_givens (given clause ∷ steps) all = absurd (false≢true (sym (All-head (λ e. is_given e ≡ false) (given clause) steps all)))
 no_givens (step clause hints ∷ steps) all = no_givens steps (All-tail (λ e. is_given e ≡ false) (step clause hints) steps all)
 
-pub ends_unsat : (f : Cnf) (vars : List ℕ) (events : List LogEvent) → IsJoined f.clauses events → EndsWithEmptyStep events → IsUnsat f vars events
-ends_unsat f vars events joined ends = record {
+pub ends_unsat : (f : Cnf) (vars : List ℕ) (budget : ℕ) (events : List LogEvent) → AreRefutedWithin f.clauses vars (2 ^ length vars) budget → IsJoined f.clauses events → NonEmptyStepsAreNew events → EndsWithEmptyStep events → IsUnsat f vars budget events
+ends_unsat f vars budget events refuted joined new ends = record {
   none = λ s satisfied.
       let found = step_follows s ends.before [] [] ends.hints (subst IsValidLog ends.events_are joined.valid) (subst (Satisfies s) (sym before) satisfied) in
       none_in_nil found.literal found.in_clause;
+  refuted_within = refuted;
   joined = record {
     steps = joined.steps;
     events_are = joined.events_are;
     are_steps = joined.are_steps;
     valid = joined.valid;
-    new = joined.new;
+    new = new;
     refuted = λ c below. record {
       clause = [];
       in_log = subst (λ (es : List LogEvent). Contains (clauses_of es) []) (sym ends.events_are)
@@ -150,7 +172,8 @@ ends_unsat f vars events joined ends = record {
 
 -- what was solved in a wave, as far as it says that something is refuted
 pub solved_refuted : (f : Cnf) (vars : List ℕ) (first budget : ℕ) (wave : List (Result Solved Memory)) → AreSolved f vars first budget wave → AreRefuted f vars first wave
-solved_refuted f vars first budget wave are i d log below is = subst (λ (r : Result Solved Memory). IfOk r (λ s. IsSolved f (cube_literals (first + i) vars) budget s)) is (are i d below)
+solved_refuted f vars first budget wave are i d log below is =
+    let it = subst (λ (r : Result Solved Memory). IfOk r (λ s. IsSolved f (cube_literals (first + i) vars) budget s)) is (are i d below) in it.0
 
 -- the one at a place
 pub solved_at : (f : Cnf) (vars : List ℕ) (first budget : ℕ) (wave : List (Result Solved Memory)) (i now : ℕ) (r : Result Solved Memory) (one : Solved) → AreSolved f vars first budget wave → i < length wave → r ≡ get_or wave i r → r ≡ Ok one → now ≡ first + i

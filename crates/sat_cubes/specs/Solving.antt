@@ -4,6 +4,7 @@ use Rattle.cnf_core.specs.Literal.{Literal}
 use Rattle.cnf_core.specs.Clauses.{Satisfies}
 use Rattle.cnf_core.specs.Formula.{Cnf}
 use Rattle.cnf_core.specs.Events.{LogEvent, LogState, is_given, nonempty_steps}
+use Rattle.cnf_core.specs.Steps.{NonEmptyStepsAreNew}
 use Rattle.sat_search.specs.Logs.{IsSound, NoneIsEmpty}
 use Rattle.sat_search.specs.View.{value_in}
 use Rattle.sat_split.specs.Cubes.{cube_literals, LiesIn, cube_log}
@@ -29,6 +30,7 @@ pub record IsModelIn (f : Cnf) (literals : List Literal) (values : List Bool) : 
 -- the log of a cube in which nothing satisfies the formula
 pub record IsRefuted (f : Cnf) (literals : List Literal) (log : LogState) : Type 0 where
   pub refutation : IsRefutation f.clauses literals log.events
+  pub sound : IsSound log.events
   pub none : (s : ℕ → Bool) → LiesIn literals s → Satisfies s f.clauses → ⊥
 
 -- the log of a cube whose budget is spent
@@ -42,17 +44,18 @@ pub record IsSpentLog (f : Cnf) (literals : List Literal) (budget : ℕ) (log : 
   pub notes : log.notes ≡ []
   pub base : log.base ≡ 0
 
+-- what is known of a cube that was solved
 abbrev pub IsSolved : Cnf → List Literal → ℕ → Solved → Type 0
 IsSolved f literals budget (Sat values) = IsModelIn f literals values.items
-IsSolved f literals budget (Unsat log) = IsRefuted f literals log
+IsSolved f literals budget (Unsat log) = IsRefuted f literals log × (nonempty_steps log.events ≤ budget)
 IsSolved f literals budget (Spent log) = IsSpentLog f literals budget log
 
--- a cube that isn't refuted
+-- what is known of a cube that isn't refuted
 abbrev pub IsLeft : Cnf → List Literal → ℕ → Left → Type 0
 IsLeft f literals budget (left.Sat values) = IsModelIn f literals values.items
 IsLeft f literals budget (left.Spent log) = IsSpentLog f literals budget log
 
--- a cube that isn't refuted
+-- a cube isn't refuted
 abbrev pub IsOpen : Solved → Type 0
 IsOpen (Sat values) = Unit {0}
 IsOpen (Unsat log) = ⊥
@@ -63,7 +66,7 @@ abbrev pub AreRefuted : Cnf → List ℕ → ℕ → List (Result Solved Memory)
 AreRefuted f vars first wave =
     (i : ℕ) (d : Result Solved Memory) (log : LogState) → i < length wave → slice_index_or wave i d ≡ Ok (Unsat log) → IsRefuted f (cube_literals (first + i) vars) log
 
--- each cube of a wave was solved, from the cube of a number on
+-- each cube of a wave was solved, from the cube of a number on, unless memory was wanting
 abbrev pub AreSolved : Cnf → List ℕ → ℕ → ℕ → List (Result Solved Memory) → Type 0
 AreSolved f vars first budget wave =
     (i : ℕ) (d : Result Solved Memory) → i < length wave → IfOk (slice_index_or wave i d) (λ solved. IsSolved f (cube_literals (first + i) vars) budget solved)
@@ -72,6 +75,7 @@ AreSolved f vars first budget wave =
 pub record IsSoFar (f : Cnf) (vars ends : List ℕ) (joined : LogState) : Type 0 where
   pub divides : Divides f.clauses vars
   pub joint : IsJoint f.clauses vars ends joined.events
+  pub new : NonEmptyStepsAreNew joined.events
   pub none_below : NoneBelow f.clauses vars (length ends)
   pub within : length ends ≤ 2 ^ length vars
   pub notes : joined.notes ≡ []

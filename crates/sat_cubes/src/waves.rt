@@ -5,7 +5,7 @@ ghost use Rattle.cnf_core.specs.Literal.{Literal};
 ghost use Rattle.cnf_core.specs.Formula.{Cnf};
 ghost use Rattle.sat_split.specs.Cubes.{cube_literals};
 ghost use Rattle.sat_join.specs.Joins.{Divides};
-ghost use Rattle.sat_cubes.specs.Answers.{IsAnswer, IsCubed};
+ghost use Rattle.sat_cubes.specs.Answers.{AnswersCubes, AreRefutedWithin, IsCubed};
 ghost use Rattle.sat_cubes.specs.Solving.{AreRefuted, AreSolved, IsLeft, IsOpen, IsSoFar, IsSolved};
 
 use crate::cubed::Cubed;
@@ -119,6 +119,9 @@ fn join_refuted(
     ensures so_far { OnOk result (IsSoFar formula.now vars.now ends.new.items joined.new) }
     ensures count { IfOk result (λ count. length ends.new.items ≡ length ends.old.items + count) }
     ensures within { IfOk result (λ count. count ≤ length wave.now) }
+    ensures refuted_within { (budget : ℕ) → AreSolved formula.now vars.now (length ends.old.items) budget wave.now
+        → AreRefutedWithin formula.now.clauses vars.now (length ends.old.items) budget
+        → OnOk result (AreRefutedWithin formula.now.clauses vars.now (length ends.new.items) budget) }
     ensures next { IfOk result (λ count. (d : Result Solved Memory) → count < length wave.now → IfOk (slice_index_or wave.now count d) IsOpen) }
 {
     for (index, solved) in wave.iter().enumerate() {
@@ -145,7 +148,9 @@ fn go_on<R: Threads + Sync, G: CubeGate>(
     requires so_far { IsSoFar formula.now vars.now ends.old.items joined.old }
     requires room { length ends.old.items + count ≤ 2 ^ length vars.now }
     requires fits { 2 ^ length vars.now < 2 ^ 64 }
+    requires refuted_within { AreRefutedWithin formula.now.clauses vars.now (length ends.old.items) budget }
     ensures so_far { OnOk result (IsSoFar formula.now vars.now ends.new.items joined.new) }
+    ensures refuted_within { OnOk result (AreRefutedWithin formula.now.clauses vars.now (length ends.new.items) budget) }
     ensures left { IfOk result (λ left. IfSome left (λ one. (length ends.new.items < 2 ^ length vars.now)
         × IsLeft formula.now (cube_literals (length ends.new.items) vars.now) budget one)) }
     ensures all { IfOk result (λ left. IfNone left (length ends.new.items ≡ length ends.old.items + count)) }
@@ -161,8 +166,8 @@ fn go_on<R: Threads + Sync, G: CubeGate>(
 
 // What comes of all cubes, where those below one are refuted and joined, and it isn't.
 fn ended(left: Left, cube: u64, joined: Log) -> Cubed
-    ensures { (f : Cnf) (vars ends : List ℕ) (budget : ℕ) → IsSoFar f vars ends joined → cube ≡ length ends → length ends < 2 ^ length vars
-        → IsLeft f (cube_literals (length ends) vars) budget left → IsAnswer f budget vars result }
+    ensures { (f : Cnf) (vars ends : List ℕ) (budget : ℕ) → IsSoFar f vars ends joined → AreRefutedWithin f.clauses vars (length ends) budget
+        → cube ≡ length ends → length ends < 2 ^ length vars → IsLeft f (cube_literals (length ends) vars) budget left → AnswersCubes f budget vars result }
 {
     match left {
         Left::Sat(values) => Cubed::Sat {

@@ -10,7 +10,7 @@ use Rattle.cnf_core.specs.Steps.{IsValidStep, IsNewStep}
 use Rattle.cnf_core.proofs.Events.{EachStep-step, clauses_push}
 use Rattle.cnf_core.proofs.Following.{clauses_of-push}
 use Rattle.sat_split.specs.Cubes.{all_given}
-use Rattle.sat_join.specs.Joins.{clause_at, IsRefutedAt, IsJoined}
+use Rattle.sat_join.specs.Joins.{clause_at, IsRefutedAt, IsJoined, KeepsNew}
 
 pub clause_at-left : (events : List LogEvent) (e : LogEvent) (place : ℕ) → place < length events → clause_at (events ++ e ∷ []) place ≡ clause_at events place
 clause_at-left events e place there =
@@ -54,13 +54,16 @@ givens_before clauses steps events is are =
     ∙ ap (λ (cs : List (List Literal)). givens (all_given clauses) ++ cs) (no_givens steps are)
     ∙ append-nil (givens (all_given clauses)) ∙ givens-given clauses
 
+-- a new step at the end of new ones
+pub new_step : (events : List LogEvent) (clause : List Literal) (hints : List ℕ) → (0 < length clause → IsNewStep events clause) → KeepsNew events (events ++ step clause hints ∷ [])
+new_step events clause hints new before = EachStep-step (λ earlier c hs. 0 < length c → IsNewStep earlier c) [] events clause hints before new
+
 -- a step at the end of a joined log
-pub joined_step : (clauses : List (List Literal)) (events : List LogEvent) (clause : List Literal) (hints : List ℕ) → IsJoined clauses events → IsClause clause → IsValidStep events clause hints → (0 < length clause → IsNewStep events clause) → IsJoined clauses (events ++ step clause hints ∷ [])
-joined_step clauses events clause hints joined is valid new = record {
+pub joined_step : (clauses : List (List Literal)) (events : List LogEvent) (clause : List Literal) (hints : List ℕ) → IsJoined clauses events → IsClause clause → IsValidStep events clause hints → IsJoined clauses (events ++ step clause hints ∷ [])
+joined_step clauses events clause hints joined is valid = record {
   steps = joined.steps ++ step clause hints ∷ [];
   events_are = ap (λ (es : List LogEvent). es ++ step clause hints ∷ []) joined.events_are ∙ append_assoc (all_given clauses) joined.steps (step clause hints ∷ []);
   are_steps = All-push (λ e. is_given e ≡ false) joined.steps (step clause hints) joined.are_steps refl;
   valid = EachStep-step IsValidStep [] events clause hints joined.valid valid;
-  new = EachStep-step (λ earlier c hs. 0 < length c → IsNewStep earlier c) [] events clause hints joined.new new;
   are_clauses = clauses_push events (step clause hints) joined.are_clauses is;
 }

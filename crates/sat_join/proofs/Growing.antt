@@ -9,13 +9,12 @@ use Rattle.cnf_core.specs.Events.{LogEvent, LogState, given, step, clause_of, cl
 use Rattle.cnf_core.specs.Steps.{clauses_at, IsValidStep, IsEffectiveStep, IsValidLog, NonEmptyStepsAreEffective, StandsInGiven}
 use Rattle.cnf_core.proofs.Members.{All-from_contains, Contains-here, Contains-there, Contains-cases, none_in_nil}
 use Rattle.cnf_core.proofs.Following.{EachStep-split, clauses_of-push}
-use Rattle.sat_search.specs.Logs.{IsSound}
 use Rattle.sat_split.specs.Cubes.{cube_literals, all_given, unit_of, cube_log}
 use Rattle.sat_split.proofs.Cubes.{cubes_differ}
-use Rattle.sat_join.specs.Joins.{clause_at, IsRefutedAt, IsJoined, IsJoint, IsOfCubes, HasNegations, Divides, ArePlaces, IsWidened, Refutes}
+use Rattle.sat_join.specs.Joins.{clause_at, IsRefutedAt, IsJoined, IsJoint, KeepsNew, IsOfCubes, HasNegations, Divides, ArePlaces, IsWidened, Refutes}
 use Rattle.sat_join.proofs.Wider.{Contains-map, wide_shown}
-use Rattle.sat_join.proofs.News.{AreApart, ComesFrom, new_wide, wide_consistent}
-use Rattle.sat_join.proofs.Events.{clause_at-left, clause_at-push, refuted_left, givens_before, clauses-given, joined_step}
+use Rattle.sat_join.proofs.News.{AreApart, ComesFrom, new_wide}
+use Rattle.sat_join.proofs.Events.{clause_at-left, clause_at-push, refuted_left, givens_before, clauses-given, joined_step, new_step}
 use Rattle.sat_join.proofs.Refuting.{IsRefuting, named_stands, apart, cube_named, refuting}
 use Rattle.sat_join.proofs.Hinted.{Follows, places_mirror}
 
@@ -103,12 +102,14 @@ joining_begun clauses vars ends literals first joined joint at = record {
   origins = λ other found. inl (All-contains (IsOfCubes clauses vars (length ends)) (clauses_of joined) other joint.origins found);
 }
 
--- what is known of a step of the cube's log
-pub step_known : (refuted before after : List LogEvent) (clause : List Literal) (hints : List ℕ) → IsSound refuted → refuted ≡ before ++ step clause hints ∷ after → IsValidStep before clause hints × (0 < length clause → IsEffectiveStep before clause)
-step_known refuted before after clause hints sound is = (
-  (EachStep-split IsValidStep [] before after clause hints (subst IsValidLog is sound.valid)).1,
-  (EachStep-split (λ earlier c hs. 0 < length c → IsEffectiveStep earlier c) [] before after clause hints (subst NonEmptyStepsAreEffective is sound.effective)).1,
-)
+-- a step of the cube's log is valid
+pub step_valid : (refuted before after : List LogEvent) (clause : List Literal) (hints : List ℕ) → IsValidLog refuted → refuted ≡ before ++ step clause hints ∷ after → IsValidStep before clause hints
+step_valid refuted before after clause hints valid is = (EachStep-split IsValidStep [] before after clause hints (subst IsValidLog is valid)).1
+
+-- one with a literal is effective
+pub step_effective : (refuted before after : List LogEvent) (clause : List Literal) (hints : List ℕ) → NonEmptyStepsAreEffective refuted → refuted ≡ before ++ step clause hints ∷ after → 0 < length clause → IsEffectiveStep before clause
+step_effective refuted before after clause hints effective is =
+    (EachStep-split (λ earlier c hs. 0 < length c → IsEffectiveStep earlier c) [] before after clause hints (subst NonEmptyStepsAreEffective is effective)).1
 
 module _ (clauses : List (List Literal)) (vars ends : List ℕ) (literals : List Literal) (first : ℕ) (before joined : List LogEvent)
     (divides : Divides clauses vars) (is_cube : length ends < 2 ^ length vars) (are : literals ≡ cube_literals (length ends) vars)
@@ -211,22 +212,25 @@ module _ (clauses : List (List Literal)) (vars ends : List ℕ) (literals : List
       ]
 
   -- one step more
-  pub joining_more : (clause wide : List Literal) (hints places : List ℕ) → IsValidStep before clause hints → IsEffectiveStep before clause → ArePlaces clauses literals first hints places → IsClause wide → IsWidened literals clause wide
+  pub joining_more : (clause wide : List Literal) (hints places : List ℕ) → IsValidStep before clause hints → ArePlaces clauses literals first hints places → IsClause wide → IsWidened literals clause wide
       → IsJoining clauses vars ends literals first (before ++ step clause hints ∷ []) (joined ++ step wide places ∷ [])
-  joining_more clause wide hints places valid effective placed is widened =
+  joining_more clause wide hints places valid placed is widened =
       let mirror = places_mirror clauses literals first before joined joining.follows joining.is_joined.are_clauses hints places placed valid.hints_are_there in
-      let consistent = wide_consistent before clause literals effective units separate wide widened in
       record {
         part = joining.part ++ step clause hints ∷ [];
         before_is = ap (λ (es : List LogEvent). es ++ step clause hints ∷ []) joining.before_is ∙ append_assoc (cube_log clauses literals).events joining.part (step clause hints ∷ []);
         part_steps = All-push (λ e. is_given e ≡ false) joining.part (step clause hints) joining.part_steps refl;
         follows = follows_more clause wide hints places widened;
         is_joined = joined_step clauses joined wide places joining.is_joined is
-            (record { hints_are_there = mirror.0; shown = wide_shown literals clause wide (clauses_at before hints) (clauses_at joined places) mirror.1 widened consistent valid.shown })
-            (λ some. new_wide before clause literals effective units joined wide separate widened cube_stands stands comes_from);
+            (record { hints_are_there = mirror.0; shown = wide_shown literals clause wide (clauses_at before hints) (clauses_at joined places) mirror.1 widened valid.shown });
         refuted = λ c below. refuted_left joined (step wide places) (cube_literals c vars) (get_or ends c 0) (joining.refuted c below);
         origins = origins_more clause wide hints places widened;
       }
+
+  -- which is new where the cube's step is effective
+  pub joining_new : (clause wide : List Literal) (places : List ℕ) → IsEffectiveStep before clause → IsWidened literals clause wide → KeepsNew joined (joined ++ step wide places ∷ [])
+  joining_new clause wide places effective widened =
+      new_step joined wide places (λ some. new_wide before clause literals effective units joined wide separate widened cube_stands stands comes_from)
 
   -- the places of a step's hints are there
   pub places_there : (clause : List Literal) (hints places : List ℕ) → IsValidStep before clause hints → ArePlaces clauses literals first hints places → HintsAreThere joined places
@@ -250,7 +254,7 @@ module _ (clauses : List (List Literal)) (vars ends : List ℕ) (literals : List
 
   -- the cube's last step, without a literal, is joined where no event says as much
   pub joint_next : (hints places : List ℕ) (old new : LogState) (place : ℕ) → old.events ≡ joined → IsValidStep before [] hints → ArePlaces clauses literals first hints places → Refutes old new literals places place
-      → IsJoint clauses vars (ends ++ place ∷ []) new.events
+      → IsJoint clauses vars (ends ++ place ∷ []) new.events × KeepsNew joined new.events
   joint_next hints places old new place is valid placed refutes =
       let mirror = places_mirror clauses literals first before joined joining.follows joining.is_joined.are_clauses hints places placed valid.hints_are_there in
       let done : IsRefuting clauses literals place old.events new.events =
@@ -258,19 +262,21 @@ module _ (clauses : List (List Literal)) (vars ends : List ℕ) (literals : List
       (λ wide same consistent. subst (λ (es : List LogEvent). IsValidStep es wide places) (sym is) (record {
         hints_are_there = mirror.0;
         shown = wide_shown literals [] wide (clauses_at before hints) (clauses_at joined places) mirror.1
-            (subst (HaveSameLiterals wide) (sym (append-nil (map negation literals))) same) consistent valid.shown;
+            (subst (HaveSameLiterals wide) (sym (append-nil (map negation literals))) same) valid.shown;
       }))
       refutes in
       let origin : (other : List Literal) → Contains (clauses_of new.events) other → IsOfCubes clauses vars (length ends + 1) other =
       λ other there. elim (done.origins other there) [
         | inl before' ↦ of_next other (joining.origins other (subst (λ (es : List LogEvent). Contains (clauses_of es) other) is before'))
         | inr negated ↦ inr (length ends, omega arith, subst (λ (ls : List Literal). HasNegations ls other) are negated)
-      ] in
-      record {
-        joined = done.joined;
-        refuted = all_refuted new.events place
-            (λ c below. done.kept (cube_literals c vars) (get_or ends c 0) (subst (λ (es : List LogEvent). IsRefutedAt es (cube_literals c vars) (get_or ends c 0)) (sym is) (joining.refuted c below)))
-            done.here;
-        origins = subst (λ (n : ℕ). All (IsOfCubes clauses vars n) (clauses_of new.events)) (sym (length_push ends place))
-            (All-from_contains (IsOfCubes clauses vars (length ends + 1)) (clauses_of new.events) origin);
-      }
+      ] in (
+        record {
+          joined = done.joined;
+          refuted = all_refuted new.events place
+              (λ c below. done.kept (cube_literals c vars) (get_or ends c 0) (subst (λ (es : List LogEvent). IsRefutedAt es (cube_literals c vars) (get_or ends c 0)) (sym is) (joining.refuted c below)))
+              done.here;
+          origins = subst (λ (n : ℕ). All (IsOfCubes clauses vars n) (clauses_of new.events)) (sym (length_push ends place))
+              (All-from_contains (IsOfCubes clauses vars (length ends + 1)) (clauses_of new.events) origin);
+        },
+        subst (λ (es : List LogEvent). KeepsNew es new.events) is done.new_steps,
+      )

@@ -72,7 +72,7 @@ module _ (before : List LogEvent) (clause literals : List Literal) (effective : 
     | inr differs ↦ effective.at_end.consistent q (cube_true q in_cube) (effective.is_last.others q in_clause differs)
   ]
 
-  pub wide_consistent : AreApart literals → (wide : List Literal) → HaveSameLiterals wide (map negation literals ++ clause) → IsConsistent wide
+  wide_consistent : AreApart literals → (wide : List Literal) → HaveSameLiterals wide (map negation literals ++ clause) → IsConsistent wide
   wide_consistent apart wide same l here there =
       elim (Contains-append_cases (map negation literals) clause l (within l here)) [
         | inl in_cube ↦ elim (Contains-append_cases (map negation literals) clause (negation l) (within (negation l) there)) [

@@ -15,9 +15,9 @@ use Rattle.cnf_core.proofs.Readings.{reading_goes_on, reading_ends, shown_by_rea
 use Rattle.sat_search.specs.Logs.{EndsWithEmptyStep, with_step}
 use Rattle.sat_split.specs.Cubes.{IsNamed, cube_literals, IsFalseIn}
 use Rattle.sat_split.proofs.Cubes.{pairs_tail, twice_as_many}
-use Rattle.sat_join.specs.Joins.{clause_at, IsRefutedAt, IsJoined, IsJoint, IsClosing, Divides, Refutes}
+use Rattle.sat_join.specs.Joins.{clause_at, IsRefutedAt, IsJoined, IsJoint, IsClosing, KeepsNew, Divides, Refutes}
 use Rattle.sat_join.proofs.Wider.{Contains-map}
-use Rattle.sat_join.proofs.Events.{joined_step}
+use Rattle.sat_join.proofs.Events.{joined_step, new_step}
 use Rattle.sat_join.proofs.Refuting.{IsRefuting, refuting}
 
 abbrev sign : ℕ → Bool → Literal
@@ -68,21 +68,23 @@ divides_tail clauses v vars divides = record {
 }
 
 -- so many pairs of cubes are refuted
-pub record IsHalfDone (clauses : List (List Literal)) (v : ℕ) (vars ends halves : List ℕ) (events : List LogEvent) : Type 0 where
+pub record IsHalfDone (clauses : List (List Literal)) (v : ℕ) (vars ends halves : List ℕ) (start events : List LogEvent) : Type 0 where
   pub joined : IsJoined clauses events
+  pub new_steps : KeepsNew start events
   pub ends_refuted : (c : ℕ) → c < length ends → IsRefutedAt events (cube_literals c (v ∷ vars)) (get_or ends c 0)
   pub halves_refuted : (c : ℕ) → c < length halves → IsRefutedAt events (cube_literals c vars) (get_or halves c 0)
 
-pub half_begun : (clauses : List (List Literal)) (v : ℕ) (vars ends : List ℕ) (events : List LogEvent) → IsClosing clauses (v ∷ vars) ends events → IsHalfDone clauses v vars ends [] events
+pub half_begun : (clauses : List (List Literal)) (v : ℕ) (vars ends : List ℕ) (events : List LogEvent) → IsClosing clauses (v ∷ vars) ends events → IsHalfDone clauses v vars ends [] events events
 half_begun clauses v vars ends events closing = record {
   joined = closing.joined;
+  new_steps = λ before. before;
   ends_refuted = closing.refuted;
   halves_refuted = λ c below. absurd (omega arith);
 }
 
-pub half_more : (clauses : List (List Literal)) (v : ℕ) (vars ends halves : List ℕ) (old new : LogState) (place : ℕ) → Divides clauses (v ∷ vars) → IsHalfDone clauses v vars ends halves old.events → 2 * length halves + 1 < length ends
-    → Refutes old new (cube_literals (length halves) vars) (get_or ends (2 * length halves) 0 ∷ get_or ends (2 * length halves + 1) 0 ∷ []) place → IsHalfDone clauses v vars ends (halves ++ place ∷ []) new.events
-half_more clauses v vars ends halves old new place divides half within refutes =
+pub half_more : (clauses : List (List Literal)) (v : ℕ) (vars ends halves : List ℕ) (start : List LogEvent) (old new : LogState) (place : ℕ) → Divides clauses (v ∷ vars) → IsHalfDone clauses v vars ends halves start old.events → 2 * length halves + 1 < length ends
+    → Refutes old new (cube_literals (length halves) vars) (get_or ends (2 * length halves) 0 ∷ get_or ends (2 * length halves + 1) 0 ∷ []) place → IsHalfDone clauses v vars ends (halves ++ place ∷ []) start new.events
+half_more clauses v vars ends halves start old new place divides half within refutes =
     let c = length halves in
     let one = half.ends_refuted (2 * c) (omega (arith, within)) in
     let other = half.ends_refuted (2 * c + 1) within in
@@ -100,6 +102,7 @@ half_more clauses v vars ends halves old new place divides half within refutes =
     refutes in
     record {
       joined = done.joined;
+      new_steps = λ before. done.new_steps (half.new_steps before);
       ends_refuted = λ k below. done.kept (cube_literals k (v ∷ vars)) (get_or ends k 0) (half.ends_refuted k below);
       halves_refuted = λ k below. elim (cases_lt k c) [
         | inl before ↦ subst (IsRefutedAt new.events (cube_literals k vars)) (sym (get_or_append_left halves (place ∷ []) 0 k before))
@@ -111,12 +114,15 @@ half_more clauses v vars ends halves old new place divides half within refutes =
       ];
     }
 
-pub half_ended : (clauses : List (List Literal)) (v : ℕ) (vars ends halves : List ℕ) (old events : List LogEvent) → IsClosing clauses (v ∷ vars) ends old → IsHalfDone clauses v vars ends halves events → length halves ≡ length ends / 2 → IsClosing clauses vars halves events
-half_ended clauses v vars ends halves old events closing half count = record {
-  joined = half.joined;
-  count = let twice = twice_as_many v vars in omega (arith, count, closing.count, twice);
-  refuted = half.halves_refuted;
-}
+pub half_ended : (clauses : List (List Literal)) (v : ℕ) (vars ends halves : List ℕ) (old events : List LogEvent) → IsClosing clauses (v ∷ vars) ends old → IsHalfDone clauses v vars ends halves old events → length halves ≡ length ends / 2 → IsClosing clauses vars halves events × KeepsNew old events
+half_ended clauses v vars ends halves old events closing half count = (
+  record {
+    joined = half.joined;
+    count = let twice = twice_as_many v vars in omega (arith, count, closing.count, twice);
+    refuted = half.halves_refuted;
+  },
+  half.new_steps,
+)
 
 -- with all cubes joined, closing begins
 pub closing_begun : (clauses : List (List Literal)) (vars ends : List ℕ) (events : List LogEvent) → IsJoint clauses vars ends events → length ends ≡ 2 ^ length vars → IsClosing clauses vars ends events
@@ -152,13 +158,13 @@ nil_clause = record { ordered = λ i j d order below. absurd (omega arith); vari
 
 pub closed_joined : (clauses : List (List Literal)) (ends : List ℕ) (events : List LogEvent) → IsClosing clauses [] ends events → IsJoined clauses (events ++ step [] ends ∷ [])
 closed_joined clauses ends events closing =
-    joined_step clauses events [] ends closing.joined nil_clause (closed_valid clauses ends events closing) (λ some. absurd (omega arith))
+    joined_step clauses events [] ends closing.joined nil_clause (closed_valid clauses ends events closing)
 
 -- a turn of the loop over pairs
-pub half_turn : (clauses : List (List Literal)) (v : ℕ) (vars ends halves : List ℕ) (old new : LogState) (place k : ℕ) (literals : List Literal) (hints : List ℕ) → Divides clauses (v ∷ vars) → IsHalfDone clauses v vars ends halves old.events
-    → length halves ≡ k → k < length ends / 2 → literals ≡ cube_literals k vars → hints ≡ get_or ends (2 * k) 0 ∷ get_or ends (2 * k + 1) 0 ∷ [] → Refutes old new literals hints place → IsHalfDone clauses v vars ends (halves ++ place ∷ []) new.events
-half_turn clauses v vars ends halves old new place k literals hints divides half count within are hinted refutes =
-    half_more clauses v vars ends halves old new place divides half (omega (arith, count, within))
+pub half_turn : (clauses : List (List Literal)) (v : ℕ) (vars ends halves : List ℕ) (start : List LogEvent) (old new : LogState) (place k : ℕ) (literals : List Literal) (hints : List ℕ) → Divides clauses (v ∷ vars) → IsHalfDone clauses v vars ends halves start old.events
+    → length halves ≡ k → k < length ends / 2 → literals ≡ cube_literals k vars → hints ≡ get_or ends (2 * k) 0 ∷ get_or ends (2 * k + 1) 0 ∷ [] → Refutes old new literals hints place → IsHalfDone clauses v vars ends (halves ++ place ∷ []) start new.events
+half_turn clauses v vars ends halves start old new place k literals hints divides half count within are hinted refutes =
+    half_more clauses v vars ends halves start old new place divides half (omega (arith, count, within))
     (subst (λ (n : ℕ). Refutes old new (cube_literals n vars) (get_or ends (2 * n) 0 ∷ get_or ends (2 * n + 1) 0 ∷ []) place) (sym count)
     (subst (λ (ls : List Literal). Refutes old new ls (get_or ends (2 * k) 0 ∷ get_or ends (2 * k + 1) 0 ∷ []) place) are
     (subst (λ (hs : List ℕ). Refutes old new literals hs place) hinted refutes)))
@@ -170,6 +176,10 @@ nil_is (l ∷ clause) same = absurd (none_in_nil l (All-head (Contains []) l cla
 pub closed_with : (clauses : List (List Literal)) (ends : List ℕ) (log new : LogState) (clause : List Literal) → IsClosing clauses [] ends log.events → clause ≡ [] → new ≡ with_step log clause ends → IsJoined clauses new.events
 closed_with clauses ends log new clause closing none is =
     subst (IsJoined clauses) (sym (ap (λ (s : LogState). s.events) is ∙ ap (λ (c : List Literal). log.events ++ step c ends ∷ []) none)) (closed_joined clauses ends log.events closing)
+
+pub closed_new : (ends : List ℕ) (log new : LogState) (clause : List Literal) → clause ≡ [] → new ≡ with_step log clause ends → KeepsNew log.events new.events
+closed_new ends log new clause none is =
+    subst (KeepsNew log.events) (sym (ap (λ (s : LogState). s.events) is)) (new_step log.events clause ends (λ some. absurd (omega (arith, some, ap (λ (ls : List Literal). length ls) none))))
 
 pub ended_with : (ends : List ℕ) (log new : LogState) (clause : List Literal) → clause ≡ [] → new ≡ with_step log clause ends → EndsWithEmptyStep new.events
 ended_with ends log new clause none is = record {

@@ -10,10 +10,10 @@ use Rattle.cnf_core.proofs.Members.{All-from_contains}
 use Rattle.cnf_core.proofs.Following.{clauses_of-push}
 use Rattle.sat_split.specs.Cubes.{IsNamed, cube_literals, IsFalseIn}
 use Rattle.sat_split.proofs.Cubes.{cube_names, cube_apart}
-use Rattle.sat_join.specs.Joins.{IsRefutedAt, IsJoined, HasNegations, Divides, Refutes}
+use Rattle.sat_join.specs.Joins.{IsRefutedAt, IsJoined, KeepsNew, HasNegations, Divides, Refutes}
 use Rattle.sat_join.proofs.Wider.{Contains-map, Contains-from_map}
 use Rattle.sat_join.proofs.News.{AreApart}
-use Rattle.sat_join.proofs.Events.{clause_at-push, refuted_left, givens_before, joined_step}
+use Rattle.sat_join.proofs.Events.{clause_at-push, refuted_left, givens_before, joined_step, new_step}
 
 -- a variable that stands in the formula stands in a given of a joined log
 pub named_stands : (clauses : List (List Literal)) (joined : List LogEvent) (v : ℕ) → IsJoined clauses joined → IsNamed clauses v → StandsInGiven joined v
@@ -28,6 +28,7 @@ named_stands clauses joined v is named = record {
 -- the joined log refutes a cube, and keeps what it was
 pub record IsRefuting (clauses : List (List Literal)) (literals : List Literal) (place : ℕ) (old new : List LogEvent) : Type 0 where
   pub joined : IsJoined clauses new
+  pub new_steps : KeepsNew old new
   pub here : IsRefutedAt new literals place
   pub kept : (others : List Literal) (other : ℕ) → IsRefutedAt old others other → IsRefutedAt new others other
   pub origins : (clause : List Literal) → Contains (clauses_of new) clause → Contains (clauses_of old) clause ⊎ HasNegations literals clause
@@ -46,6 +47,7 @@ module _ (clauses : List (List Literal)) (vars : List ℕ) (cube : ℕ) (literal
   refuting hints old new place joined valid (inl found) =
       subst (IsRefuting clauses literals place old.events) (sym (ap (λ (s : LogState). s.events) found.0)) (record {
         joined = joined;
+        new_steps = λ before. before;
         here = found.1;
         kept = λ others other at. at;
         origins = λ clause there. inl there;
@@ -57,7 +59,8 @@ module _ (clauses : List (List Literal)) (vars : List ℕ) (cube : ℕ) (literal
       let consistent : IsConsistent wide = λ l here there. apart (negation l) (negated l here) (negated (negation l) there) in
       let after = old.events ++ step wide hints ∷ [] in
       subst (IsRefuting clauses literals place old.events) (sym (ap (λ (s : LogState). s.events) added.1)) (record {
-        joined = joined_step clauses old.events wide hints joined added.3 (valid wide added.4 consistent) (λ some. record {
+        joined = joined_step clauses old.events wide hints joined added.3 (valid wide added.4 consistent);
+        new_steps = new_step old.events wide hints (λ some. record {
           consistent = consistent;
           variables = All-from_contains (λ (l : Literal). StandsInGiven old.events l.var) wide (λ l there. named_stands clauses old.events l.var joined (cube_named (negation l) (negated l there)));
           not_included = All-from_contains (λ other. Includes wide other → ⊥) (clauses_of old.events) (λ other there includes.

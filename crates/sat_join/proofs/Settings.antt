@@ -9,10 +9,10 @@ use Rattle.cnf_core.specs.Events.{LogEvent, LogState, step, is_given, is_nonempt
 use Rattle.cnf_core.specs.declared.clause.Clause.{Clause}
 use Rattle.cnf_core.specs.declared.log.Event.{Event}
 use Rattle.cnf_core.specs.declared.log.Event.TheVariants as variants
-use Rattle.cnf_core.specs.Steps.{IsValidStep, IsEffectiveStep}
+use Rattle.cnf_core.specs.Steps.{IsValidStep, NonEmptyStepsAreEffective}
 use Rattle.sat_split.specs.Cubes.{cube_literals, cube_log, unit_of}
-use Rattle.sat_join.specs.Joins.{IsJoint, CanJoin, ArePlaces, IsWidened, Refutes}
-use Rattle.sat_join.proofs.Growing.{IsJoining, joining_begun, step_known, joining_more, places_there, joint_next, length_cube}
+use Rattle.sat_join.specs.Joins.{IsJoint, CanJoin, KeepsNew, ArePlaces, IsWidened, Refutes}
+use Rattle.sat_join.proofs.Growing.{IsJoining, joining_begun, step_valid, step_effective, joining_more, joining_new, places_there, joint_next, length_cube}
 use Rattle.sat_join.proofs.Turns.{steps_are, at_turn, one_turn, step_at, not_ended, both_given}
 
 -- the next cube can be joined, and its log's steps are looked at
@@ -71,9 +71,9 @@ module _ {givens : List (List Literal)} {vars ends : List ℕ} {literals : List 
       ∙ ap (λ (y : Event). so_far k ++ plain_event y ∷ map plain_event (drop (k + 1) turns)) step_is
 
   pub known : (k : ℕ) (e : Event) (clause : Clause) (hints : Vec ℕ Global) → k < length turns → e ≡ get_or turns k e → e ≡ variants.Step clause hints
-      → IsValidStep (so_far k) clause hints.items × (0 < length clause → IsEffectiveStep (so_far k) clause)
+      → IsValidStep (so_far k) clause hints.items
   known k e clause hints below is step_is =
-      step_known refuted (so_far k) (map plain_event (drop (k + 1) turns)) clause hints.items set.can.refutation.sound (here k e clause hints below is step_is)
+      step_valid refuted (so_far k) (map plain_event (drop (k + 1) turns)) clause hints.items set.can.refutation.valid (here k e clause hints below is step_is)
 
   -- no place is beyond the numbers that there are
   pub bounded : (k : ℕ) (e : Event) (clause : Clause) (hints : Vec ℕ Global) → k < length turns → e ≡ get_or turns k e → e ≡ variants.Step clause hints
@@ -83,29 +83,35 @@ module _ {givens : List (List Literal)} {vars ends : List ℕ} {literals : List 
       let long : length (so_far k) ≤ length whole =
       omega (arith, all, length-append (so_far k) (step clause hints.items ∷ map plain_event (drop (k + 1) turns)), length-map whole plain_event, ap (λ (es : List LogEvent). length es) set.plain) in
       All-weaker (λ (h : ℕ). h < length (so_far k)) (λ (h : ℕ). first + h < 2 ^ 64) (λ h there. omega (arith, there, long, low, few)) hints.items
-      (known k e clause hints below is step_is).0.hints_are_there
+      (known k e clause hints below is step_is).hints_are_there
 
   pub places_stand : (k : ℕ) (e : Event) (clause : Clause) (hints : Vec ℕ Global) (places : List ℕ) (joined : List LogEvent) → k < length turns → e ≡ get_or turns k e → e ≡ variants.Step clause hints
       → IsJoining givens vars ends literals first (so_far k) joined → ArePlaces givens literals first hints.items places → HintsAreThere joined places
   places_stand k e clause hints places joined below is step_is joining placed =
-      places_there givens vars ends literals first (so_far k) joined set.can.divides set.can.is_cube set.are joining clause hints.items places (known k e clause hints below is step_is).0 placed
+      places_there givens vars ends literals first (so_far k) joined set.can.divides set.can.is_cube set.are joining clause hints.items places (known k e clause hints below is step_is) placed
 
   pub more : (k : ℕ) (e : Event) (clause : Clause) (hints : Vec ℕ Global) (places : List ℕ) (joined : List LogEvent) (wide : List Literal) → k < length turns → e ≡ get_or turns k e → e ≡ variants.Step clause hints
-      → IsJoining givens vars ends literals first (so_far k) joined → ArePlaces givens literals first hints.items places → 0 < length clause → IsClause wide → IsWidened literals clause wide
+      → IsJoining givens vars ends literals first (so_far k) joined → ArePlaces givens literals first hints.items places → IsClause wide → IsWidened literals clause wide
       → IsJoining givens vars ends literals first (so_far (k + 1)) (joined ++ step wide places ∷ [])
-  more k e clause hints places joined wide below is step_is joining placed some is_clause widened =
-      let now = known k e clause hints below is step_is in
+  more k e clause hints places joined wide below is step_is joining placed is_clause widened =
       subst (λ (es : List LogEvent). IsJoining givens vars ends literals first es (joined ++ step wide places ∷ []))
       (sym (one_turn (length givens + length literals) whole turns cube set.can.refutation.steps refuted set.plain set.back split (length_cube givens literals) k e below is
       ∙ ap (λ (y : Event). so_far k ++ plain_event y ∷ []) step_is))
-      (joining_more givens vars ends literals first (so_far k) joined set.can.divides set.can.is_cube set.are joining clause wide hints.items places now.0 (now.1 some) placed is_clause widened)
+      (joining_more givens vars ends literals first (so_far k) joined set.can.divides set.can.is_cube set.are joining clause wide hints.items places (known k e clause hints below is step_is) placed is_clause widened)
+
+  -- which is new, if the cube's steps are effective
+  pub more_new : (k : ℕ) (e : Event) (clause : Clause) (hints : Vec ℕ Global) (places : List ℕ) (joined : List LogEvent) (wide : List Literal) → k < length turns → e ≡ get_or turns k e → e ≡ variants.Step clause hints
+      → IsJoining givens vars ends literals first (so_far k) joined → 0 < length clause → IsWidened literals clause wide → NonEmptyStepsAreEffective refuted → KeepsNew joined (joined ++ step wide places ∷ [])
+  more_new k e clause hints places joined wide below is step_is joining some widened effective =
+      joining_new givens vars ends literals first (so_far k) joined set.can.divides set.can.is_cube set.are joining clause wide places
+      (step_effective refuted (so_far k) (map plain_event (drop (k + 1) turns)) clause hints.items effective (here k e clause hints below is step_is) some) widened
 
   pub last : (k : ℕ) (e : Event) (clause : Clause) (hints : Vec ℕ Global) (places : List ℕ) (old new : LogState) (place : ℕ) → k < length turns → e ≡ get_or turns k e → e ≡ variants.Step clause hints
       → IsJoining givens vars ends literals first (so_far k) old.events → ArePlaces givens literals first hints.items places → clause ≡ [] → Refutes old new literals places place
-      → IsJoint givens vars (ends ++ place ∷ []) new.events
+      → IsJoint givens vars (ends ++ place ∷ []) new.events × KeepsNew old.events new.events
   last k e clause hints places old new place below is step_is joining placed none refutes =
       joint_next givens vars ends literals first (so_far k) old.events set.can.divides set.can.is_cube set.are joining hints.items places old new place refl
-      (subst (λ (c : List Literal). IsValidStep (so_far k) c hints.items) none (known k e clause hints below is step_is).0) placed refutes
+      (subst (λ (c : List Literal). IsValidStep (so_far k) c hints.items) none (known k e clause hints below is step_is)) placed refutes
 
   pub some_more : (k : ℕ) (e : Event) (clause : Clause) (hints : Vec ℕ Global) → k < length turns → e ≡ get_or turns k e → e ≡ variants.Step clause hints → is_nonempty_step (step clause hints.items) ≡ true
       → All (λ x. is_nonempty_step x ≡ true) (map plain_event (take k turns)) → All (λ x. is_nonempty_step x ≡ true) (map plain_event (take (k + 1) turns))

@@ -1,5 +1,5 @@
 -- What a reading of a cube's clauses shows, the joined ones show, where the cube's literals are true from the start.
-use Rattle.std.proofs.Common.{◌≡◌, Bool, true, false, not, ◌⊎◌, inl, inr, List, [], ◌∷◌, ◌++◌, refl, ap, ◌∙◌, sym, subst, cond}
+use Rattle.std.proofs.Common.{◌≡◌, Bool, true, false, not, ◌||◌, ◌⊎◌, inl, inr, List, [], ◌∷◌, ◌++◌, refl, ap, ◌∙◌, sym, subst, cond}
 use Rattle.std.specs.Prelude.{Contains, map}
 use Rattle.std.specs.List.{list_all, AllByRecursion}
 use Rattle.std.proofs.lemmas.Bool.{false≢true, or_right}
@@ -7,7 +7,7 @@ use Rattle.std.proofs.lemmas.List.Elements.{Contains-append_left, Contains-appen
 use Rattle.cnf_core.specs.Literal.{Literal, negation, IsOrdered, HaveSameLiterals, is_among}
 use Rattle.cnf_core.specs.Reading.{is_false, not_false, trues_after, reading_succeeds, has_contradiction, is_shown_by}
 use Rattle.cnf_core.specs.Steps.{IsConsistent}
-use Rattle.cnf_core.proofs.Members.{Contains-here, Contains-there, Contains-cases, none_in_nil, or_cases, either, Contains-from_test, test_from_Contains, Contains-filter, passes_each, passes_some, negation-negation}
+use Rattle.cnf_core.proofs.Members.{Contains-here, Contains-there, Contains-cases, none_in_nil, or_cases, either, Contains-from_test, test_from_Contains, Contains-filter, passes_each, passes_none, passes_some, negation-negation}
 use Rattle.cnf_core.proofs.Readings.{Covers, reading_more, reading_goes_on, reading_ends, shown_by_reading}
 
 pub Contains-map : (ls : List Literal) (l : Literal) → Contains ls l → Contains (map negation ls) (negation l)
@@ -162,9 +162,9 @@ reads literals (clause ∷ clauses) joined trues more (inr here) wider succeeds 
 twice : (ls : List Literal) (l : Literal) → Contains ls (negation (negation l)) → Contains ls l
 twice ls l found = subst (Contains ls) (negation-negation l) found
 
--- hints that show a step of the cube show it with the negations of the cube's literals
-pub wide_shown : (literals clause wide : List Literal) (clauses joined : List (List Literal)) → Mirrors literals clauses joined → HaveSameLiterals wide (map negation literals ++ clause) → IsConsistent wide → is_shown_by clause clauses ≡ true → is_shown_by wide joined ≡ true
-wide_shown literals clause wide clauses joined mirrors same consistent shown =
+-- the same where no literal stands together with its negation
+consistent_shown : (literals clause wide : List Literal) (clauses joined : List (List Literal)) → Mirrors literals clauses joined → HaveSameLiterals wide (map negation literals ++ clause) → IsConsistent wide → is_shown_by clause clauses ≡ true → is_shown_by wide joined ≡ true
+consistent_shown literals clause wide clauses joined mirrors same consistent shown =
     let in_wide : (l : Literal) → Contains clause l → Contains wide l =
     λ l found. All-contains (Contains wide) (map negation literals ++ clause) l same.from_second (Contains-append_right (map negation literals) clause l found) in
     let cube_in_wide : (q : Literal) → Contains literals q → Contains wide (negation q) =
@@ -180,3 +180,12 @@ wide_shown literals clause wide clauses joined mirrors same consistent shown =
         none = λ q found negated. consistent q (twice wide q (Contains-from_map wide (negation q) negated)) (cube_in_wide q found);
       }) succeeds)
     ]
+
+-- hints that show a step of the cube show it with the negations of the cube's literals
+pub wide_shown : (literals clause wide : List Literal) (clauses joined : List (List Literal)) → Mirrors literals clauses joined → HaveSameLiterals wide (map negation literals ++ clause) → is_shown_by clause clauses ≡ true → is_shown_by wide joined ≡ true
+wide_shown literals clause wide clauses joined mirrors same shown = elim (either (has_contradiction (map negation wide))) [
+  | inl clash ↦ ap (λ (b : Bool). b || reading_succeeds (map negation wide) joined) clash
+  | inr apart ↦ consistent_shown literals clause wide clauses joined mirrors same (λ l here there.
+      let T = map negation wide in
+      false≢true (sym (passes_none (is_false T) T (negation l) apart (Contains-map wide l here)) ∙ test_from_Contains T (negation (negation l)) (Contains-map wide (negation l) there))) shown
+]

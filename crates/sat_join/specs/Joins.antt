@@ -3,7 +3,7 @@ use Rattle.std.specs.Prelude.{◌≡◌, ℕ, ◌+◌, ◌^◌, ◌<◌, ◌≤�
 use Rattle.cnf_core.specs.Literal.{Literal, negation, IsClause, IsVariable, HaveSameLiterals}
 use Rattle.cnf_core.specs.Events.{LogEvent, LogState, is_given, clauses_of}
 use Rattle.cnf_core.specs.Steps.{IsValidLog, NonEmptyStepsAreNew}
-use Rattle.sat_search.specs.Logs.{IsSound, EndsWithEmptyStep, with_step}
+use Rattle.sat_search.specs.Logs.{EndsWithEmptyStep, with_step}
 use Rattle.sat_split.specs.Cubes.{IsNamed, cube_literals, IsFalseIn, all_given, cube_log}
 
 -- the clause of the event at a place
@@ -15,21 +15,21 @@ pub record IsRefutedAt (events : List LogEvent) (literals : List Literal) (place
   pub there : place < length events
   pub is_false : IsFalseIn literals (clause_at events place)
 
--- the log of a cube that was searched and has no solution
+-- the log of a cube that has no solution: the formula's clauses and the cube's literals are given, nothing else is, each step is valid, and the
+-- last one is empty
 pub record IsRefutation (clauses : List (List Literal)) (literals : List Literal) (events : List LogEvent) : Type 0 where
   pub steps : List LogEvent
   pub events_are : events ≡ (cube_log clauses literals).events ++ steps
   pub are_steps : All (λ e. is_given e ≡ false) steps
-  pub sound : IsSound events
+  pub valid : IsValidLog events
   pub ends : EndsWithEmptyStep events
 
--- the formula's clauses are given in order, nothing else is, each step is valid, and each step with a literal is new
+-- the formula's clauses are given in order, nothing else is, and each step is valid
 pub record IsJoined (clauses : List (List Literal)) (events : List LogEvent) : Type 0 where
   pub steps : List LogEvent
   pub events_are : events ≡ all_given clauses ++ steps
   pub are_steps : All (λ e. is_given e ≡ false) steps
   pub valid : IsValidLog events
-  pub new : NonEmptyStepsAreNew events
   pub are_clauses : All IsClause (clauses_of events)
 
 -- a clause has the negation of each of these literals
@@ -58,6 +58,10 @@ pub record IsClosing (clauses : List (List Literal)) (vars ends : List ℕ) (eve
   pub joined : IsJoined clauses events
   pub count : length ends ≡ 2 ^ length vars
   pub refuted : (c : ℕ) → c < length ends → IsRefutedAt events (cube_literals c vars) (slice_index_or ends c 0)
+
+-- where each step with a literal of the earlier events is new, each of the later ones is
+abbrev pub KeepsNew : List LogEvent → List LogEvent → Type 0
+KeepsNew earlier later = NonEmptyStepsAreNew earlier → NonEmptyStepsAreNew later
 
 -- the next cube can be joined: it was refuted, and the cubes below it are joined
 pub record CanJoin (clauses : List (List Literal)) (vars ends : List ℕ) (refuted joined : List LogEvent) : Type 0 where

@@ -3,7 +3,7 @@
 ghost use Rattle.std.specs.Prelude.{◌≡◌, ℕ, ◌^◌, ◌<◌, ◌∷◌, List, All, IfOk, OnOk, IsTrue, length};
 ghost use Rattle.cnf_core.specs.Literal.{Literal, IsVariable};
 ghost use Rattle.sat_search.specs.Logs.{EndsWithEmptyStep};
-ghost use Rattle.sat_join.specs.Joins.{Divides, IsClosing, IsJoined, IsJoint};
+ghost use Rattle.sat_join.specs.Joins.{Divides, IsClosing, IsJoined, IsJoint, KeepsNew};
 
 use crate::joining::refute;
 use cnf_core::{Clause, Event, Formula, Log};
@@ -16,7 +16,8 @@ fn halved(alloc: Global, joined: &mut Log, vars: &[u64], ends: &[u64]) -> Result
     requires variables { All IsVariable vars.now }
     requires there { All (λ e. e < length joined.old.events) ends.now }
     ensures closing { IfOk result (λ halves. (clauses : List (List Literal)) (v : ℕ) → Divides clauses (v ∷ vars.now)
-        → IsClosing clauses (v ∷ vars.now) ends.now joined.old.events → IsClosing clauses vars.now halves.items joined.new.events) }
+        → IsClosing clauses (v ∷ vars.now) ends.now joined.old.events
+        → IsClosing clauses vars.now halves.items joined.new.events × KeepsNew joined.old.events joined.new.events) }
     ensures notes { OnOk result (joined.new.notes ≡ joined.old.notes) }
     ensures base { OnOk result (joined.new.base ≡ joined.old.base) }
 {
@@ -53,6 +54,7 @@ pub fn close(
     requires joint { IsJoint formula.now.clauses vars.now ends.items joined.old.events }
     requires all { length ends.items ≡ 2 ^ length vars.now }
     ensures joined { OnOk result (IsJoined formula.now.clauses joined.new.events) }
+    ensures new { OnOk result (KeepsNew joined.old.events joined.new.events) }
     ensures ends { OnOk result (EndsWithEmptyStep joined.new.events) }
     ensures notes { OnOk result (joined.new.notes ≡ joined.old.notes) }
     ensures base { OnOk result (joined.new.base ≡ joined.old.base) }

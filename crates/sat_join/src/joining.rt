@@ -2,7 +2,8 @@
 
 ghost use Rattle.std.specs.Prelude.{◌≡◌, ◌+◌, IfOk, OnOk, length};
 ghost use Rattle.cnf_core.specs.Events.{HintsAreThere};
-ghost use Rattle.sat_join.specs.Joins.{CanJoin, IsJoint, Refutes};
+ghost use Rattle.cnf_core.specs.Steps.{NonEmptyStepsAreEffective};
+ghost use Rattle.sat_join.specs.Joins.{CanJoin, IsJoint, KeepsNew, Refutes};
 
 use crate::places::{find_false, places_of, refutation, widened};
 use cnf_core::{Event, Formula, Lit, Log};
@@ -31,7 +32,8 @@ pub(crate) fn refute(
     }
 }
 
-/// Joins the steps of the next cube, which has no solution, and keeps the place of an event each of whose literals is false in it.
+/// Joins the steps of the next cube, which has no solution, and keeps the place of an event each of whose literals is false in it. The log of
+/// the cube may be any solver's. Where its steps are effective, as this project's are, those that are joined are new.
 ///
 /// Costs the literals of its steps and hints, and a look at each event of the joined log.
 pub fn join_cube(
@@ -44,6 +46,7 @@ pub fn join_cube(
 ) -> Result<(), Memory>
     requires { CanJoin formula.now.clauses vars.now ends.old.items refuted.now.events joined.old.events }
     ensures joint { OnOk result (IsJoint formula.now.clauses vars.now ends.new.items joined.new.events) }
+    ensures new { OnOk result (NonEmptyStepsAreEffective refuted.now.events → KeepsNew joined.old.events joined.new.events) }
     ensures count { OnOk result (length ends.new.items ≡ length ends.old.items + 1) }
     ensures notes { OnOk result (joined.new.notes ≡ joined.old.notes) }
     ensures base { OnOk result (joined.new.base ≡ joined.old.base) }

@@ -35,10 +35,12 @@ returns-in-Sat c =
 pub returns-in-Unsat : goal.returns-in-Unsat
 returns-in-Unsat c =
     let f = c.args.formula.now in
-    let ends = c.in-Ok.is ∙ ap (λ (o : Outcome). Ok o) c.in-Unsat.is in
-    refuted_is f (cube_literals c.args.cube c.args.vars.now) c.in_ok-log.log c.solve.new.log
-    (c.in_ok-log.ensures ∙ ap (cube_log f.clauses) (c.deref.ensures.value ∙ c.in_ok-literals.ensures))
-    c.solve.ensures.steps c.solve.ensures.givens c.solve.ensures.sound (c.solve.ensures.unsat ends) (c.solve.ensures.unsat_none ends)
+    let ends = c.in-Ok.is ∙ ap (λ (o : Outcome). Ok o) c.in-Unsat.is in (
+      refuted_is f (cube_literals c.args.cube c.args.vars.now) c.in_ok-log.log c.solve.new.log
+          (c.in_ok-log.ensures ∙ ap (cube_log f.clauses) (c.deref.ensures.value ∙ c.in_ok-literals.ensures))
+          c.solve.ensures.steps c.solve.ensures.givens c.solve.ensures.sound (c.solve.ensures.unsat ends) (c.solve.ensures.unsat_none ends),
+      c.solve.ensures.within,
+    )
 
 pub returns : goal.returns
 returns c =

@@ -46,3 +46,23 @@ returns-clause-left g c =
           (subst (λ (n : ℕ). AreSolved f vars n c.args.budget wave) (let e : c.len.result ≡ first = omega (arith, c.len.ensures, c.args.ends.now.ok.0) in e) c.in_ok-wave.ensures.solved)
           below c.swap_remove.ensures.value c.in_ok-open.was c.in_ok-joins.ensures.count),
     )
+
+pub returns-clause-refuted_within : goal.returns-clause-refuted_within
+returns-clause-refuted_within g c =
+    let f = c.args.formula.now in
+    let vars = c.args.vars.now in
+    let first = length c.args.ends.now.items in
+    c.in_ok-joins.ensures.refuted_within c.args.budget
+    (subst (AreSolved f vars first c.args.budget) (sym c.deref.ensures.value)
+    (subst (λ (n : ℕ). AreSolved f vars n c.args.budget c.in_ok-wave.wave.items) (let e : c.len.result ≡ first = omega (arith, c.len.ensures, c.args.ends.now.ok.0) in e) c.in_ok-wave.ensures.solved))
+    c.requires.refuted_within
+
+pub returns-then-joins-len-clause-refuted_within : goal.returns-then-joins-len-clause-refuted_within
+returns-then-joins-len-clause-refuted_within g c =
+    let f = c.args.formula.now in
+    let vars = c.args.vars.now in
+    let first = length c.args.ends.now.items in
+    c.in_ok-joins.ensures.refuted_within c.args.budget
+    (subst (AreSolved f vars first c.args.budget) (sym c.deref.ensures.value)
+    (subst (λ (n : ℕ). AreSolved f vars n c.args.budget c.in_ok-wave.wave.items) (let e : c.len.result ≡ first = omega (arith, c.len.ensures, c.args.ends.now.ok.0) in e) c.in_ok-wave.ensures.solved))
+    c.requires.refuted_within

@@ -4,7 +4,7 @@ use Rattle.ep_base.specs.declared.errors.Memory.{Memory}
 use Rattle.sat_split.specs.Cubes.{cube_literals}
 use Rattle.sat_cubes.specs.Solving.{IsRefuted, IsOpen}
 use Rattle.sat_cubes.specs.declared.solving.Solved.{Solved}
-use Rattle.sat_cubes.proofs.Waving.{may_join, so_far_more}
+use Rattle.sat_cubes.proofs.Waving.{may_join, so_far_more, within_more}
 use Rattle.sat_cubes.proofs.waves.join_refuted.Goals as goal
 
 pub join_cube-requires : goal.join_cube-requires
@@ -32,8 +32,11 @@ loop-index-preserved c =
       so_far = so_far_more f vars ends c.join_cube.new.ends.items c.loop-index.joined c.join_cube.new.joined log inv.so_far within
           (subst (λ (n : ℕ). IsRefuted f (cube_literals n vars) log) (sym inv.count)
           (c.requires.refuted c.loop-index.index c.index-wave-index.result log c.loop-index-test.true (sym c.index-wave-index.is ∙ c.in-Some.ensures.some)))
-          done.joint done.count done.notes done.base;
+          done.joint done.new done.count done.notes done.base;
       count = omega (arith, done.count, inv.count);
+      refuted_within = λ budget are so_far.
+          within_more f vars ends c.join_cube.new.ends.items (length c.args.ends.now.items) budget c.args.wave.now c.loop-index.index c.index-wave-index.result log are c.loop-index-test.true
+          (sym c.index-wave-index.is ∙ c.in-Some.ensures.some) inv.count done.count (inv.refuted_within budget are so_far);
     }
 
 pub returns-in_default-clause-next : goal.returns-in_default-clause-next

@@ -20,8 +20,8 @@ loop-cube-preserved c =
     let pushed = sym c.in_ok-push-3.ensures.items in
     record {
       half = λ clauses v divides closing.
-          subst (λ (hs : List ℕ). IsHalfDone clauses v vars ends hs new.events) pushed
-          (half_turn clauses v vars ends halves old new place k literals hints divides (c.loop-cube.invariant.half clauses v divides closing) c.loop-cube.invariant.count c.loop-cube-test.true
+          subst (λ (hs : List ℕ). IsHalfDone clauses v vars ends hs c.args.joined.now.events new.events) pushed
+          (half_turn clauses v vars ends halves c.args.joined.now.events old new place k literals hints divides (c.loop-cube.invariant.half clauses v divides closing) c.loop-cube.invariant.count c.loop-cube-test.true
           (c.deref.ensures.value ∙ c.in_ok-literals.ensures)
           (c.in_ok-push-2.ensures.items ∙ ap (λ (hs : List ℕ). hs ++ get_or ends (2 * k + 1) 0 ∷ []) (c.in_ok-push.ensures.items ∙ ap (λ (hs : List ℕ). hs ++ get_or ends (2 * k) 0 ∷ []) c.new-hints.ensures.items))
           done);
