@@ -11,4 +11,4 @@ mod solving;
 pub use enumerating::enumerate;
 pub use formulas::formula_for;
 pub use laws::cells_stand_for_values;
-pub use solving::solve;
+pub use solving::{read_back, solve};

@@ -77,9 +77,9 @@ fn search(
     }
 }
 
-/// An answer over numbers of the cells as one over values of the decision variables.
+/// An answer over numbers of the cells as one over values of the decision variables. Linear in the cells.
 #[tactic(auto, unfolding(crate::specs::Reading::answer_from, ep_print::specs::Answers::answer_tree, ep_print::specs::Answers::unknown_tree))]
-fn read_back(
+pub fn read_back(
     alloc: Global,
     finds: &[Find],
     budget: u64,
