@@ -21,7 +21,7 @@ use Rattle.ep_tree.specs.Solutions.{instance_limits, instance_reach, instance_si
 use Rattle.ep_tree.specs.Trees.{ExprTree}
 use Rattle.ep_tree.specs.Types.{Context}
 use Rattle.ep_tree.specs.declared.values.Mode.{Mode}
-use Rattle.ep_restrict.specs.Restricted.{AreClauseNumbers, MeasuresAtMost, clauses_at, restricted}
+use Rattle.ep_restrict.specs.Restricted.{AreClauseNumbers, MeasuresAtMost, numbered_clauses, restricted}
 
 -- ---- sums
 
@@ -63,31 +63,31 @@ maybe_less f (y ∷ ys) (suc m) = maybe_less f ys m
 
 -- elements at ascending places from one on are no more than all from there on
 sum_at : (f : ExprTree → ℕ) (cs : List ExprTree) (ns : List ℕ) (k : ℕ) → AllPairs ◌<◌ ns → All (λ n. k < n) ns
-    → sum_by f (clauses_at cs ns) ≤ sum_by f (drop k cs)
-unfolding clauses_at
+    → sum_by f (numbered_clauses cs ns) ≤ sum_by f (drop k cs)
+unfolding numbered_clauses
 sum_at f cs [] k pairs above = omega arith
 sum_at f cs (n ∷ ns) k pairs above =
     let behind : All (λ m. n < m) ns = λ j d within. pairs zero (suc j) d (omega arith) (omega (arith, within)) in
     let others : AllPairs ◌<◌ ns = λ i j d lt within. pairs (suc i) (suc j) d (omega (arith, lt)) (omega (arith, within)) in
     let high : k < n = All-head (λ m. k < m) n ns above in
-    let rest : sum_by f (clauses_at cs ns) ≤ sum_by f (drop n cs) = sum_at f cs ns n others behind in
+    let rest : sum_by f (numbered_clauses cs ns) ≤ sum_by f (drop n cs) = sum_at f cs ns n others behind in
     let next : suc (n - 1) ≡ n = omega (arith, high) in
     let own : sum_by f (option_to_list (slice_get cs (n - 1))) + sum_by f (drop n cs) ≤ sum_by f (drop (n - 1) cs) =
     subst (λ m. sum_by f (option_to_list (slice_get cs (n - 1))) + sum_by f (drop m cs) ≤ sum_by f (drop (n - 1) cs)) next (maybe_less f cs (n - 1)) in
     let low : sum_by f (drop (n - 1) cs) ≤ sum_by f (drop k cs) = drop_less f cs k (n - 1) (omega (arith, high)) in
-    let both : sum_by f (option_to_list (slice_get cs (n - 1)) ++ clauses_at cs ns)
-    ≡ sum_by f (option_to_list (slice_get cs (n - 1))) + sum_by f (clauses_at cs ns) =
-    sum_by-append f (option_to_list (slice_get cs (n - 1))) (clauses_at cs ns) in
-    let cons : clauses_at cs (n ∷ ns) ≡ option_to_list (slice_get cs (n - 1)) ++ clauses_at cs ns =
+    let both : sum_by f (option_to_list (slice_get cs (n - 1)) ++ numbered_clauses cs ns)
+    ≡ sum_by f (option_to_list (slice_get cs (n - 1))) + sum_by f (numbered_clauses cs ns) =
+    sum_by-append f (option_to_list (slice_get cs (n - 1))) (numbered_clauses cs ns) in
+    let cons : numbered_clauses cs (n ∷ ns) ≡ option_to_list (slice_get cs (n - 1)) ++ numbered_clauses cs ns =
     flat_map-cons (λ m. option_to_list (slice_get cs (m - 1))) n ns in
-    let whole : sum_by f (clauses_at cs (n ∷ ns)) ≡ sum_by f (option_to_list (slice_get cs (n - 1)) ++ clauses_at cs ns) = ap (sum_by f) cons in
+    let whole : sum_by f (numbered_clauses cs (n ∷ ns)) ≡ sum_by f (option_to_list (slice_get cs (n - 1)) ++ numbered_clauses cs ns) = ap (sum_by f) cons in
     omega (arith, rest, own, low, both, whole)
 
 -- numbers of clauses lie above 0
 numbered : (i : Instance) (ns : List ℕ) → AreClauseNumbers i ns → All (λ n. 0 < n) ns
 numbered i ns are = All-weaker (λ n. (1 ≤ n) × (n ≤ length i.clauses)) (λ n. 0 < n) (λ n both. omega (arith, both.0)) ns are.there
 
-pub sum_fewer : (f : ExprTree → ℕ) (i : Instance) (ns : List ℕ) → AreClauseNumbers i ns → sum_by f (clauses_at i.clauses ns) ≤ sum_by f i.clauses
+pub sum_fewer : (f : ExprTree → ℕ) (i : Instance) (ns : List ℕ) → AreClauseNumbers i ns → sum_by f (numbered_clauses i.clauses ns) ≤ sum_by f i.clauses
 sum_fewer f i ns are = sum_at f i.clauses ns 0 (AllPairs-from_increasing ns are.ascending) (numbered i ns are)
 
 -- a sum over what elements are made of is one over the elements
@@ -129,8 +129,8 @@ each_at : {A : Type 0} (P : A → Type 0) (xs : List A) (ns : List ℕ) → All 
 each_at P xs [] h = All-nil (λ n. All P (option_to_list (slice_get xs (n - 1))))
 each_at P xs (n ∷ ns) h = All-cons (λ m. All P (option_to_list (slice_get xs (m - 1)))) n ns (all_got P xs (n - 1) h) (each_at P xs ns h)
 
-pub all_at : (P : ExprTree → Type 0) (cs : List ExprTree) (ns : List ℕ) → All P cs → All P (clauses_at cs ns)
-unfolding clauses_at
+pub all_at : (P : ExprTree → Type 0) (cs : List ExprTree) (ns : List ℕ) → All P cs → All P (numbered_clauses cs ns)
+unfolding numbered_clauses
 all_at P cs ns h = all_flat P (λ n. option_to_list (slice_get cs (n - 1))) ns (each_at P cs ns h)
 
 -- ---- the greatest absolute value
@@ -176,15 +176,15 @@ far_ends : Mode → Env → List ExprTree → List ℤ
 far_ends mode env es = map farthest_end (flat_map (reaches_at mode) (flat_map (met mode env) es))
 
 among_ends : (mode : Mode) (env : Env) (cs goals : List ExprTree) (ns : List ℕ) (P : ℤ → Type 0)
-    → All P (far_ends mode env (cs ++ goals)) → All P (far_ends mode env (clauses_at cs ns ++ []))
+    → All P (far_ends mode env (cs ++ goals)) → All P (far_ends mode env (numbered_clauses cs ns ++ []))
 unfolding far_ends
 among_ends mode env cs goals ns P h =
     let Q : Met → Type 0 = λ m. All (λ r. P (farthest_end r)) (reaches_at mode m) in
     let nodes = all_parts (λ e. P (farthest_end e)) (reaches_at mode) (flat_map (met mode env) (cs ++ goals)) (all_unmap P farthest_end (flat_map (reaches_at mode) (flat_map (met mode env) (cs ++ goals))) h) in
     let clauses = all_left (λ e. All Q (met mode env e)) cs goals (all_parts Q (met mode env) (cs ++ goals) nodes) in
-    let few : All (λ e. All Q (met mode env e)) (clauses_at cs ns ++ []) = All-append (λ e. All Q (met mode env e)) (clauses_at cs ns) [] (all_at (λ e. All Q (met mode env e)) cs ns clauses) (All-nil (λ e. All Q (met mode env e))) in
-    all_map P farthest_end (flat_map (reaches_at mode) (flat_map (met mode env) (clauses_at cs ns ++ [])))
-    (all_flat (λ r. P (farthest_end r)) (reaches_at mode) (flat_map (met mode env) (clauses_at cs ns ++ [])) (all_flat Q (met mode env) (clauses_at cs ns ++ []) few))
+    let few : All (λ e. All Q (met mode env e)) (numbered_clauses cs ns ++ []) = All-append (λ e. All Q (met mode env e)) (numbered_clauses cs ns) [] (all_at (λ e. All Q (met mode env e)) cs ns clauses) (All-nil (λ e. All Q (met mode env e))) in
+    all_map P farthest_end (flat_map (reaches_at mode) (flat_map (met mode env) (numbered_clauses cs ns ++ [])))
+    (all_flat (λ r. P (farthest_end r)) (reaches_at mode) (flat_map (met mode env) (numbered_clauses cs ns ++ [])) (all_flat Q (met mode env) (numbered_clauses cs ns ++ []) few))
 
 -- ---- the measures of fewer clauses
 
@@ -193,48 +193,48 @@ goal_trees : Instance → List ExprTree
 goal_trees i = option_to_list (option_map (λ goal. goal.1) i.goal)
 
 sum_few : (f : ExprTree → ℕ) (i : Instance) (ns : List ℕ) → AreClauseNumbers i ns
-    → sum_by f (clauses_at i.clauses ns ++ []) ≤ sum_by f (i.clauses ++ goal_trees i)
+    → sum_by f (numbered_clauses i.clauses ns ++ []) ≤ sum_by f (i.clauses ++ goal_trees i)
 sum_few f i ns are =
-    let few : sum_by f (clauses_at i.clauses ns ++ []) ≡ sum_by f (clauses_at i.clauses ns) + sum_by f [] = sum_by-append f (clauses_at i.clauses ns) [] in
+    let few : sum_by f (numbered_clauses i.clauses ns ++ []) ≡ sum_by f (numbered_clauses i.clauses ns) + sum_by f [] = sum_by-append f (numbered_clauses i.clauses ns) [] in
     let all : sum_by f (i.clauses ++ goal_trees i) ≡ sum_by f i.clauses + sum_by f (goal_trees i) = sum_by-append f i.clauses (goal_trees i) in
-    let less : sum_by f (clauses_at i.clauses ns) ≤ sum_by f i.clauses = sum_fewer f i ns are in
+    let less : sum_by f (numbered_clauses i.clauses ns) ≤ sum_by f i.clauses = sum_fewer f i ns are in
     let none : sum_by f [] ≡ 0 = refl in
     omega (arith, few, all, less, none)
 
 pub met_fewer : (mode : Mode) (i : Instance) (ns : List ℕ) → AreClauseNumbers i ns
     → size_of (met_instance mode (restricted i ns)) ≤ size_of (met_instance mode i)
-unfolding met_instance met_in clauses_at goal_trees
+unfolding met_instance met_in numbered_clauses goal_trees
 met_fewer mode i ns are =
     let env : Env = clause_env i in
-    let few : length (flat_map (met mode env) (clauses_at i.clauses ns ++ [])) ≡ sum_by (λ e. length (met mode env e)) (clauses_at i.clauses ns ++ []) =
-    length-flat_map (met mode env) (clauses_at i.clauses ns ++ []) in
+    let few : length (flat_map (met mode env) (numbered_clauses i.clauses ns ++ [])) ≡ sum_by (λ e. length (met mode env e)) (numbered_clauses i.clauses ns ++ []) =
+    length-flat_map (met mode env) (numbered_clauses i.clauses ns ++ []) in
     let all : length (flat_map (met mode env) (i.clauses ++ goal_trees i)) ≡ sum_by (λ e. length (met mode env e)) (i.clauses ++ goal_trees i) =
     length-flat_map (met mode env) (i.clauses ++ goal_trees i) in
     let less = sum_few (λ e. length (met mode env e)) i ns are in
-    let out : length (flat_map (met mode env) (clauses_at i.clauses ns ++ [])) ≤ length (flat_map (met mode env) (i.clauses ++ goal_trees i)) =
+    let out : length (flat_map (met mode env) (numbered_clauses i.clauses ns ++ [])) ≤ length (flat_map (met mode env) (i.clauses ++ goal_trees i)) =
     omega (arith, few, all, less) in
     out
 
 pub weight_fewer : (mode : Mode) (i : Instance) (ns : List ℕ) → AreClauseNumbers i ns
     → weight_of mode (met_instance mode (restricted i ns)) ≤ weight_of mode (met_instance mode i)
-unfolding met_instance met_in weight_of clauses_at goal_trees
+unfolding met_instance met_in weight_of numbered_clauses goal_trees
 weight_fewer mode i ns are =
     let env : Env = clause_env i in
-    let few : sum_by (weight_at mode) (flat_map (met mode env) (clauses_at i.clauses ns ++ [])) ≡ sum_by (λ e. sum_by (weight_at mode) (met mode env e)) (clauses_at i.clauses ns ++ []) =
-    sum_flat (weight_at mode) (met mode env) (clauses_at i.clauses ns ++ []) in
+    let few : sum_by (weight_at mode) (flat_map (met mode env) (numbered_clauses i.clauses ns ++ [])) ≡ sum_by (λ e. sum_by (weight_at mode) (met mode env e)) (numbered_clauses i.clauses ns ++ []) =
+    sum_flat (weight_at mode) (met mode env) (numbered_clauses i.clauses ns ++ []) in
     let all : sum_by (weight_at mode) (flat_map (met mode env) (i.clauses ++ goal_trees i)) ≡ sum_by (λ e. sum_by (weight_at mode) (met mode env e)) (i.clauses ++ goal_trees i) =
     sum_flat (weight_at mode) (met mode env) (i.clauses ++ goal_trees i) in
     let less = sum_few (λ e. sum_by (weight_at mode) (met mode env e)) i ns are in
-    let out : sum_by (weight_at mode) (flat_map (met mode env) (clauses_at i.clauses ns ++ []))
+    let out : sum_by (weight_at mode) (flat_map (met mode env) (numbered_clauses i.clauses ns ++ []))
     ≤ sum_by (weight_at mode) (flat_map (met mode env) (i.clauses ++ goal_trees i)) =
     omega (arith, few, all, less) in
     out
 
 pub reach_fewer : (mode : Mode) (i : Instance) (ns : List ℕ)
     → IsTrue (int_le (farthest_reach mode (met_instance mode (restricted i ns))) (farthest_reach mode (met_instance mode i)))
-unfolding met_instance met_in farthest_reach clauses_at far_ends goal_trees
+unfolding met_instance met_in farthest_reach numbered_clauses far_ends goal_trees
 reach_fewer mode i ns =
-    farthest_less (far_ends mode (clause_env i) (clauses_at i.clauses ns ++ [])) (far_ends mode (clause_env i) (i.clauses ++ goal_trees i))
+    farthest_less (far_ends mode (clause_env i) (numbered_clauses i.clauses ns ++ [])) (far_ends mode (clause_env i) (i.clauses ++ goal_trees i))
     (among_ends mode (clause_env i) i.clauses (goal_trees i) ns)
 
 pub measures_fewer : (mode : Mode) (i : Instance) (ns : List ℕ) → AreClauseNumbers i ns → MeasuresAtMost mode (restricted i ns) i
@@ -311,7 +311,7 @@ unfolding instance_faults
 closed_fewer i ns closed =
     let context : Context = context_of (clause_env i) in
     let own : clause_faults context true i.clauses ≡ [] = none_left (clause_faults context true i.clauses) (flat_map (λ goal. goal_faults context goal.1) (option_to_list i.goal)) closed.faultless in
-    let few : clause_faults context true (clauses_at i.clauses ns) ≡ [] = faultless_all context (clauses_at i.clauses ns) (all_at (λ e. clause_faults context true (e ∷ []) ≡ []) i.clauses ns (faultless_each context i.clauses own)) in
+    let few : clause_faults context true (numbered_clauses i.clauses ns) ≡ [] = faultless_all context (numbered_clauses i.clauses ns) (all_at (λ e. clause_faults context true (e ∷ []) ≡ []) i.clauses ns (faultless_each context i.clauses own)) in
     record {
       distinct = closed.distinct;
       apart = closed.apart;

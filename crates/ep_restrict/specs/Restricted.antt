@@ -13,12 +13,12 @@ pub record AreClauseNumbers (i : Instance) (numbers : List ℕ) : Type 0 where
   pub there : All (λ n. (1 ≤ n) × (n ≤ length i.clauses)) numbers
 
 -- the clauses with these numbers, in their order
-unfoldable pub clauses_at : List ExprTree → List ℕ → List ExprTree
-clauses_at clauses numbers = flat_map (λ n. option_to_list (slice_get clauses (n - 1))) numbers
+unfoldable pub numbered_clauses : List ExprTree → List ℕ → List ExprTree
+numbered_clauses clauses numbers = flat_map (λ n. option_to_list (slice_get clauses (n - 1))) numbers
 
 -- an instance with the clauses of these numbers alone, and without an objective
 abbrev pub restricted : Instance → List ℕ → Instance
-restricted i numbers = record i { clauses = clauses_at i.clauses numbers; goal = None }
+restricted i numbers = record i { clauses = numbered_clauses i.clauses numbers; goal = None }
 
 -- One instance measures at most what another does.
 pub record MeasuresAtMost (mode : Mode) (i of : Instance) : Type 0 where

@@ -3,7 +3,7 @@
 ghost use Rattle.std.specs.Prelude.{◌≡◌, ◌≤◌, IfOk, length, map};
 ghost use Rattle.std.specs.List.{All};
 ghost use Rattle.ep_instance_parts.specs.Instances.{find_of, instance_mode, plain_instance};
-ghost use Rattle.ep_restrict.specs.Restricted.{AreClauseNumbers, clauses_at, restricted};
+ghost use Rattle.ep_restrict.specs.Restricted.{AreClauseNumbers, numbered_clauses, restricted};
 ghost use Rattle.ep_tree.specs.Views.{expr_tree};
 
 use ep_base::{Memory, Name};
@@ -44,7 +44,7 @@ fn copy_finds(alloc: Global, finds: &[Find]) -> Result<Vec<Find>, Memory>
 fn copy_clauses(alloc: Global, clauses: &[Expr], numbers: &[u64]) -> Result<Vec<Expr>, Memory>
     requires { All (λ n. (1 ≤ n) × (n ≤ length clauses.now)) numbers.now }
     ensures { IfOk result (λ copies. map expr_tree copies.items
-        ≡ clauses_at (map expr_tree clauses.now) numbers.now) }
+        ≡ numbered_clauses (map expr_tree clauses.now) numbers.now) }
 {
     let mut copies = Vec::with_capacity(alloc, numbers.len())?;
     for number in numbers {

@@ -2,7 +2,7 @@ use Rattle.std.proofs.Common.{◌-◌, ◌≤◌, ap, get_or, length, ◌∙◌,
 use Rattle.std.specs.Prelude.{map}
 use Rattle.std.proofs.lemmas.List.{take_all}
 use Rattle.std.proofs.lemmas.List.Elements.{All-get_or}
-use Rattle.ep_restrict.specs.Restricted.{clauses_at}
+use Rattle.ep_restrict.specs.Restricted.{numbered_clauses}
 use Rattle.ep_tree.specs.Views.{expr_tree}
 use Rattle.ep_restrict.proofs.Copied.{clause_got, clause_more, none_at}
 use Rattle.ep_restrict.proofs.restricting.copy_clauses.Goals as goal
@@ -30,4 +30,4 @@ loop-number-preserved c =
     (omega (arith, there.0, there.1)) (c.in_ok-copy.ensures ∙ ap expr_tree c.index-clauses-place.is))
 
 pub returns : goal.returns
-returns c = c.loop-number.invariant ∙ ap (clauses_at (map expr_tree c.args.clauses.now)) (take_all c.loop-number.number-index c.args.numbers.now (omega (arith, c.loop-number-test.false)))
+returns c = c.loop-number.invariant ∙ ap (numbered_clauses (map expr_tree c.args.clauses.now)) (take_all c.loop-number.number-index c.args.numbers.now (omega (arith, c.loop-number-test.false)))
