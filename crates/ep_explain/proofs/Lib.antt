@@ -1,0 +1,11 @@
+mod Making
+mod Leaving
+mod Turns
+mod Numbers
+mod Violating
+mod Asking
+mod Only
+mod Solving
+mod Judged
+mod Single
+mod Ending

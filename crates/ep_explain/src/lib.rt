@@ -1,0 +1,11 @@
+//! Why an instance has no solution: clauses that have none together, of which none can be left out.
+#![tactic(auto)]
+
+mod explaining;
+mod left;
+mod searches;
+mod tries;
+
+pub use explaining::{Dropped, Explained, explain};
+pub use searches::Searches;
+pub use tries::{Tried, Tries};
