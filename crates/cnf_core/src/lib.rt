@@ -7,7 +7,6 @@ mod formula;
 mod laws;
 mod lit;
 mod log;
-mod proof;
 
 pub use clause::Clause;
 pub use formula::Formula;
@@ -17,4 +16,3 @@ pub use laws::{
 };
 pub use lit::{Lit, MOST_VARIABLE};
 pub use log::{CellNote, Event, Log};
-pub use proof::{Line, Proof};
