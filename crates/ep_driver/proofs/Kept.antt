@@ -20,7 +20,8 @@ use Rattle.ep_tree.specs.Solutions.{Assigned, Found, IsSolution, IsWritten, a_so
 use Rattle.ep_tree.specs.Statements.{TextTree}
 use Rattle.ep_tree.specs.Texts.{Answers, SpellsText, TextAnswer, bad_byte, long_number, read_as, syntax_fault, too_high, too_long}
 use Rattle.ep_tree.specs.declared.values.Mode.{Mode}
-use Rattle.ep_driver.specs.Answers.{Settles, judgement_status, judgement_text}
+use Rattle.ep_driver.specs.Answers.{Settles, judgement_status}
+use Rattle.ep_said.specs.Judgements.{judgement_text}
 use Rattle.ep_driver.specs.Commands.{Want}
 use Rattle.ep_driver.specs.Outcomes.{Outcome, Task, as_outcome, fault_refusals, instance_of, search_outcome, searched_task, to_judge, to_solve_opb, verify_outcome}
 use Rattle.ep_driver.specs.Promised.{FilesMake, HoldsGiven, IsPromised}

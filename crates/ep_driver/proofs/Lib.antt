@@ -1,7 +1,7 @@
 mod Wanting
 mod Puts
 mod VectorsOutcomes
-mod VectorsSummaries
+mod VectorsNumbers
 mod Refusing
 mod Binding
 mod Limits

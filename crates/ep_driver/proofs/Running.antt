@@ -23,9 +23,11 @@ use Rattle.ep_tree.specs.Solutions.{Assigned, Fits, Found, instance_limits}
 use Rattle.ep_tree.specs.Statements.{TextTree}
 use Rattle.ep_tree.specs.declared.values.Mode.{Mode}
 use Rattle.ep_solve.specs.Right.{empty_log}
-use Rattle.ep_driver.specs.Answers.{Settles, verdict_status, verdict_text, wrong_shape_text}
+use Rattle.ep_driver.specs.Answers.{Settles, verdict_status}
 use Rattle.ep_driver.specs.Outcomes.{Outcome, Task, and_then, as_outcome, bind_refusal, bind_refusals, bound_outcome, fault_refusals, instance_of, judge_outcome, search_outcome, searched_task, to_check, to_judge, unless_refused, verify_outcome}
 use Rattle.ep_files.specs.Status.{status_of}
+use Rattle.ep_said.specs.Judgements.{wrong_shape_text}
+use Rattle.ep_said.specs.Verdicts.{verdict_text}
 use Rattle.ep_driver.specs.Steps.{EndsAs, EndsBy, IsAmong, IsEnd, IsJudged, IsJudgedEnd, LogsTask, Passes, SaysOfRun, Tells, TellsReply, TellsRun, TellsShape, TellsTask, shape_outcome}
 use Rattle.ep_driver.specs.Stops.{bind_stop}
 use Rattle.ep_driver.specs.declared.replies.Reply.{Reply}

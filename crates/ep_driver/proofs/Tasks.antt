@@ -17,7 +17,7 @@ use Rattle.ep_solve.specs.Right.{IsRight, IsSpent}
 use Rattle.ep_driver.specs.Answers.{Settles, answer_status, judgement_status, listing_status}
 use Rattle.ep_driver.specs.Outcomes.{and_then, bind_refusals, bound_outcome, fault_refusals, instance_of, judge_outcome, search_outcome, searched_task, to_generate, to_judge, to_list, to_solve, verify_outcome}
 use Rattle.ep_driver.specs.Steps.{IsAmong, IsSearched, shape_outcome}
-use Rattle.ep_driver.specs.Summaries.{summary_text}
+use Rattle.ep_said.specs.Summaries.{summary_text}
 use Rattle.ep_files.specs.declared.status.Status.{Status}
 use Rattle.ep_driver.specs.declared.wanted.Request.{Request}
 use Rattle.ep_driver.proofs.Refusing.{among-first, among-later, among-next, among-then, none-refused, then-next}

@@ -1,6 +1,5 @@
--- Worked examples of what commands want, of what texts come to, and of what is said, computed by the checker.
-use Rattle.std.proofs.Common.{◌≡◌, ℕ, List, [], ◌∷◌, negsuc, codes, Some, None, Err, refl}
-use Rattle.std.specs.Fmt.{digits}
+-- Worked examples of what commands want, of what texts come to, and of how runs end, computed by the checker.
+use Rattle.std.proofs.Common.{◌≡◌, ℕ, List, [], ◌∷◌, codes, Some, None, Err, refl}
 use Rattle.ep_base.specs.declared.places.Place.{Place}
 use Rattle.ep_print.specs.declared.refusals.Refusal.{Refusal}
 use Rattle.ep_print.specs.declared.refusals.TextFile.{TextFile}
@@ -14,7 +13,7 @@ use Rattle.ep_tree.specs.StatementSpelling.{is_letting}
 use Rattle.ep_tree.specs.Types.{from_one, judge, named_type}
 use Rattle.ep_words.specs.declared.job.Job.{Job}
 use Rattle.log_check.specs.declared.Verdict.TheVariants.{BadStep, NoEmptyClause, Verified}
-use Rattle.ep_driver.specs.Answers.{judgement_status, judgement_text, listing_status, verdict_status, verdict_text}
+use Rattle.ep_driver.specs.Answers.{judgement_status, listing_status, verdict_status}
 use Rattle.ep_driver.specs.Commands.{no_outputs, wanted_of}
 use Rattle.ep_outputs.specs.Outputs.{a_formula, an_answer, named as named_files, steps}
 use Rattle.ep_driver.specs.Outputs.{outputs_in_order}
@@ -98,23 +97,7 @@ params-before-solution : verify_outcome Mode.Relational [] faulty-params faulty-
 unfolding declaration_faults fault_refusal faults faults_after is_letting name_faults params_faults stated_faults statement_faults text_faults unless unless_refused verify_outcome
 params-before-solution = refl
 
--- ---- what is said of an assignment
-
-solution-says : judgement_text (a_solution None) ≡ codes "$ solution\n"
-unfolding judgement_text
-solution-says = refl
-
-objective-says : judgement_text (a_solution (Some (negsuc 2))) ≡ codes "$ solution objective -3\n"
-unfolding digits judgement_text
-objective-says = refl
-
-violated-says : judgement_text (violates 12) ≡ codes "$ violated 12\n"
-unfolding digits judgement_text
-violated-says = refl
-
-undefined-says : judgement_text goal_undefined ≡ codes "$ objective undefined\n"
-unfolding judgement_text
-undefined-says = refl
+-- ---- how a run ends that judges an assignment
 
 solution-ends : exit_code (judgement_status (a_solution None)) ≡ 0
 unfolding judgement_status
@@ -128,19 +111,7 @@ undefined-ends : exit_code (judgement_status goal_undefined) ≡ 7
 unfolding judgement_status
 undefined-ends = refl
 
--- ---- what is said of a proof
-
-verified-says : verdict_text Verified ≡ codes "$ verified\n"
-unfolding verdict_text
-verified-says = refl
-
-bad-step-says : verdict_text (BadStep 12) ≡ codes "$ bad step 12\n"
-unfolding digits verdict_text
-bad-step-says = refl
-
-unfinished-says : verdict_text NoEmptyClause ≡ codes "$ no empty clause\n"
-unfolding verdict_text
-unfinished-says = refl
+-- ---- how a run ends that checks a proof
 
 verified-ends : exit_code (verdict_status Verified) ≡ 0
 unfolding verdict_status

@@ -1,6 +1,5 @@
--- Which answers are right for a task, their texts, and what the log shows of them.
-use Rattle.std.specs.Prelude.{◌≡◌, ℕ, Bool, true, false, List, ◌++◌, codes, Some, None, Contains}
-use Rattle.std.specs.Fmt.{decimal, signed_decimal}
+-- Which answers are right for a task, how a run ends with them, and what the log shows of them.
+use Rattle.std.specs.Prelude.{◌≡◌, ℕ, Bool, true, false, List, Contains}
 use Rattle.ep_tree.specs.Binding.{Instance}
 use Rattle.ep_tree.specs.SolutionTexts.{fits, wrong_shape}
 use Rattle.ep_tree.specs.Solutions.{Fits, Found, Judgement, a_solution, goal_undefined, judgement, violates}
@@ -20,8 +19,10 @@ use Rattle.opb_answer.specs.Right.{IsRightOpb}
 use Rattle.opb_solve.specs.Logged.{IsOpbLogged}
 use Rattle.opb_solve.specs.Replies.{is_spent}
 use Rattle.ep_driver.specs.Outcomes.{Task, to_check, to_generate, to_judge, to_list, to_solve, to_solve_opb}
-use Rattle.ep_driver.specs.Summaries.{summary_text}
 use Rattle.ep_files.specs.declared.status.Status.{Status}
+use Rattle.ep_said.specs.Judgements.{judgement_text, wrong_shape_text}
+use Rattle.ep_said.specs.Summaries.{summary_text}
+use Rattle.ep_said.specs.Verdicts.{verdict_text}
 
 -- how a run ends that has an answer: with the end of its budget where nothing is known
 unfoldable pub answer_status : AnswerTree → Status
@@ -41,17 +42,6 @@ judgement_status (a_solution _) = Status.Answered
 judgement_status (violates _) = Status.Refuted
 judgement_status goal_undefined = Status.Refuted
 
--- what is said of an assignment
-unfoldable pub judgement_text : Judgement → List ℕ
-judgement_text (a_solution None) = codes "$ solution\n"
-judgement_text (a_solution (Some value)) = codes "$ solution objective " ++ (signed_decimal value ++ codes "\n")
-judgement_text (violates number) = codes "$ violated " ++ (decimal number ++ codes "\n")
-judgement_text goal_undefined = codes "$ objective undefined\n"
-
--- a name keeps a solution text from giving an assignment
-abbrev pub wrong_shape_text : List ℕ → List ℕ
-wrong_shape_text name = codes "$ wrong shape " ++ (name ++ codes "\n")
-
 -- how a run ends that has an answer: with the end of its budget where the conflicts were spent
 abbrev pub spent_status : Bool → Status
 spent_status true = Status.Unknown
@@ -66,12 +56,6 @@ unfoldable pub verdict_status : Verdict → Status
 verdict_status Verified = Status.Answered
 verdict_status (BadStep line) = Status.Refuted
 verdict_status NoEmptyClause = Status.Refuted
-
--- what is said of a proof
-unfoldable pub verdict_text : Verdict → List ℕ
-verdict_text Verified = codes "$ verified\n"
-verdict_text (BadStep line) = codes "$ bad step " ++ (decimal line ++ codes "\n")
-verdict_text NoEmptyClause = codes "$ no empty clause\n"
 
 -- a status, a text and a log say which answer of an instance is right, where this is the text of an answer
 abbrev pub SettlesBy : (AnswerTree → List ℕ) → Mode → Instance → ℕ → Status → List ℕ → LogState → Type 0

@@ -3,7 +3,6 @@ pub mod Searches
 pub mod Outputs
 pub mod Outcomes
 pub mod Shown
-pub mod Summaries
 pub mod Answers
 pub mod Budgets
 pub mod Puts

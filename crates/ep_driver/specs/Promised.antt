@@ -14,8 +14,9 @@ use Rattle.opb_answer.specs.Lines.{answer_lines}
 use Rattle.opb_answer.specs.Right.{IsRightOpb}
 use Rattle.opb_text.specs.Contents.{OpbContent}
 use Rattle.opb_text.specs.Grammar.{SpellsOpb}
-use Rattle.ep_driver.specs.Answers.{answer_status, judgement_text, listing_status, opb_status}
+use Rattle.ep_driver.specs.Answers.{answer_status, listing_status, opb_status}
 use Rattle.ep_files.specs.declared.status.Status.{Status}
+use Rattle.ep_said.specs.Judgements.{judgement_text}
 use Rattle.ep_driver.specs.declared.wanted.Request.{Request}
 use Rattle.ep_driver.specs.declared.wanted.Wanted.{Wanted}
 

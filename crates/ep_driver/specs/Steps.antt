@@ -13,7 +13,7 @@ use Rattle.ep_tree.specs.declared.values.Mode.{Mode}
 use Rattle.ep_instance.specs.declared.judging.Shaped.{Shaped}
 use Rattle.ep_solve.specs.Right.{IsSpent, empty_log}
 use Rattle.sat_search.specs.Logs.{IsSound}
-use Rattle.ep_driver.specs.Answers.{Settles, judgement_status, judgement_text}
+use Rattle.ep_driver.specs.Answers.{Settles, judgement_status}
 use Rattle.ep_driver.specs.Commands.{AreNoCommand, Want, conflicts_wanted, files_of}
 use Rattle.ep_driver.specs.Outcomes.{Outcome, Task, as_outcome}
 use Rattle.ep_outputs.specs.Outputs.{AreWritten, ArePartlyWritten, FailsAt}
@@ -26,6 +26,7 @@ use Rattle.ep_files.specs.declared.status.Status.{Status}
 use Rattle.ep_files.specs.declared.stops.Stop.{Stop}
 use Rattle.ep_driver.specs.declared.wanted.Wanted.{Wanted}
 use Rattle.ep_files.specs.Reads.{IsOfText}
+use Rattle.ep_said.specs.Judgements.{judgement_text}
 
 -- the words want this, or they are no command
 abbrev pub TellsWanted : List (List ℕ) → Result Wanted Stop → Type 0

@@ -1,7 +1,6 @@
 //! Says whether a solution text is a solution.
 
-ghost use Rattle.std.specs.Prelude.{◌≡◌, [], ◌++◌, codes, IfOk};
-ghost use Rattle.std.specs.Fmt.{decimal, signed_decimal};
+ghost use Rattle.std.specs.Prelude.{◌≡◌, [], IfOk};
 ghost use Rattle.ep_tree.specs.Closed.{IsClosed};
 ghost use Rattle.ep_tree.specs.Solutions.{Fits, Found, instance_limits};
 ghost use Rattle.ep_tree.specs.Views.{assigned};
@@ -9,7 +8,7 @@ ghost use Rattle.ep_types.specs.Texts.{typed_params_tree};
 ghost use Rattle.ep_instance_parts.specs.Instances.{plain_instance, instance_mode};
 ghost use Rattle.ep_instance.specs.Judgements.{judgement_of};
 ghost use Rattle.ep_solve.specs.Right.{empty_log};
-ghost use Rattle.ep_driver.specs.Answers.{judgement_status, judgement_text, wrong_shape_text};
+ghost use Rattle.ep_driver.specs.Answers.{judgement_status};
 ghost use Rattle.ep_driver.specs.Outcomes.{judge_outcome};
 ghost use Rattle.ep_driver.specs.Steps.{IsJudged, TellsReply, TellsShape};
 
@@ -18,10 +17,10 @@ use super::replies::Reply;
 use ep_base::Memory;
 use ep_files::{Status, Stop};
 use ep_instance::{Instance, Judgement, Shaped, is_solution, read_assignment};
+use ep_said::{judgement_text, wrong_shape_text};
 use ep_tree::Assignment;
 use ep_types::TypedParams;
-use itoa::Buffer;
-use std::alloc::{AllocError, Global};
+use std::alloc::Global;
 
 /// What is said of a solution text.
 pub fn judged_reply(
@@ -80,53 +79,4 @@ fn judgement_status(judgement: &Judgement) -> Status
         Judgement::Solution { .. } => Status::Answered,
         Judgement::Violated(_) | Judgement::ObjectiveUndefined => Status::Refuted,
     }
-}
-
-/// What is said of an assignment.
-#[tactic(auto, unfolding(crate::specs::Answers::judgement_text))]
-fn judgement_text(alloc: Global, judgement: &Judgement) -> Result<Vec<u8>, AllocError>
-    ensures { IfOk result (λ text. text.items ≡ judgement_text (judgement_of judgement.now)) }
-{
-    match judgement {
-        Judgement::Solution { objective: None } => Vec::from_slice(alloc, b"$ solution\n"),
-        Judgement::Solution {
-            objective: Some(value),
-        } => objective_text(alloc, *value),
-        Judgement::Violated(number) => violated_text(alloc, *number),
-        Judgement::ObjectiveUndefined => Vec::from_slice(alloc, b"$ objective undefined\n"),
-    }
-}
-
-/// A solution has this objective.
-fn objective_text(alloc: Global, value: i64) -> Result<Vec<u8>, AllocError>
-    ensures { IfOk result (λ text. text.items
-        ≡ codes "$ solution objective " ++ (signed_decimal value ++ codes "\n")) }
-{
-    let mut digits = Buffer::new();
-    let mut text = Vec::from_slice(alloc, b"$ solution objective ")?;
-    text.extend_from_slice(digits.format(value).as_bytes())?;
-    text.extend_from_slice(b"\n")?;
-    Ok(text)
-}
-
-/// A clause is violated.
-fn violated_text(alloc: Global, number: u64) -> Result<Vec<u8>, AllocError>
-    ensures { IfOk result (λ text. text.items
-        ≡ codes "$ violated " ++ (decimal number ++ codes "\n")) }
-{
-    let mut digits = Buffer::new();
-    let mut text = Vec::from_slice(alloc, b"$ violated ")?;
-    text.extend_from_slice(digits.format(number).as_bytes())?;
-    text.extend_from_slice(b"\n")?;
-    Ok(text)
-}
-
-/// A name keeps a solution text from giving an assignment.
-fn wrong_shape_text(alloc: Global, name: &str) -> Result<Vec<u8>, AllocError>
-    ensures { IfOk result (λ text. text.items ≡ wrong_shape_text name.now) }
-{
-    let mut text = Vec::from_slice(alloc, b"$ wrong shape ")?;
-    text.extend_from_slice(name.as_bytes())?;
-    text.extend_from_slice(b"\n")?;
-    Ok(text)
 }

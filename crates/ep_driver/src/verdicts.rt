@@ -1,9 +1,8 @@
 //! Says whether a proof shows that a formula has no satisfying assignment.
 
-ghost use Rattle.std.specs.Prelude.{◌≡◌, ◌⊎◌, ◌++◌, codes, IfOk};
-ghost use Rattle.std.specs.Fmt.{decimal};
+ghost use Rattle.std.specs.Prelude.{◌≡◌, IfOk};
 ghost use Rattle.ep_solve.specs.Right.{empty_log};
-ghost use Rattle.ep_driver.specs.Answers.{Settles, verdict_status, verdict_text};
+ghost use Rattle.ep_driver.specs.Answers.{Settles, verdict_status};
 ghost use Rattle.ep_driver.specs.Outcomes.{to_check};
 ghost use Rattle.ep_driver.specs.Steps.{IsJudgedEnd};
 ghost use Rattle.ep_files.specs.Reads.{formula_clauses};
@@ -14,10 +13,10 @@ use super::replies::Reply;
 use cnf_core::Formula;
 use ep_base::Memory;
 use ep_files::Status;
-use itoa::Buffer;
+use ep_said::verdict_text;
 use log_check::{OpenGate, Verdict, check_log, check_log_parallel};
 use sat_proof::Proof;
-use std::alloc::{AllocError, Global};
+use std::alloc::Global;
 use std::thread::Threads;
 
 /// What is said of a proof of a formula, which is checked by so many workers.
@@ -66,28 +65,4 @@ fn verdict_status(verdict: Verdict) -> Status
         Verdict::Verified => Status::Answered,
         Verdict::BadStep(_) | Verdict::NoEmptyClause => Status::Refuted,
     }
-}
-
-/// What is said of a proof with this verdict.
-#[tactic(auto, unfolding(crate::specs::Answers::verdict_text))]
-fn verdict_text(alloc: Global, verdict: Verdict) -> Result<Vec<u8>, AllocError>
-    ensures { IfOk result (λ text. text.items ≡ verdict_text verdict) }
-{
-    match verdict {
-        Verdict::Verified => Vec::from_slice(alloc, b"$ verified\n"),
-        Verdict::BadStep(number) => bad_step_text(alloc, number),
-        Verdict::NoEmptyClause => Vec::from_slice(alloc, b"$ no empty clause\n"),
-    }
-}
-
-/// A line of a proof isn't valid.
-fn bad_step_text(alloc: Global, number: u64) -> Result<Vec<u8>, AllocError>
-    ensures { IfOk result (λ text. text.items
-        ≡ codes "$ bad step " ++ (decimal number ++ codes "\n")) }
-{
-    let mut digits = Buffer::new();
-    let mut text = Vec::from_slice(alloc, b"$ bad step ")?;
-    text.extend_from_slice(digits.format(number).as_bytes())?;
-    text.extend_from_slice(b"\n")?;
-    Ok(text)
 }

@@ -12,7 +12,8 @@ use Rattle.sat_text.proofs.LogSpelled.{log_complete, same_lines}
 use Rattle.sat_text.specs.CnfGrammar.{SpellsCnf}
 use Rattle.sat_text.specs.LogGrammar.{SpellsLog}
 use Rattle.sat_text.specs.Words.{most_text_bytes}
-use Rattle.ep_driver.specs.Answers.{Settles, verdict_status, verdict_text}
+use Rattle.ep_driver.specs.Answers.{Settles, verdict_status}
+use Rattle.ep_said.specs.Verdicts.{verdict_text}
 use Rattle.ep_driver.specs.Commands.{Want, wanted_of}
 use Rattle.ep_driver.specs.Outcomes.{Outcome, Task, to_check}
 use Rattle.ep_files.specs.Readings.{IsFormulaReadAs, IsHeldReadBy, IsProofReadAs, IsReadBy}

@@ -18,7 +18,8 @@ use Rattle.sat_text.specs.CnfGrammar.{SpellsCnf}
 use Rattle.sat_text.specs.LogGrammar.{SpellsLog}
 use Rattle.sat_text.specs.Notes.{added_of, notes_of}
 use Rattle.sat_text.specs.Words.{lines, most_text_bytes}
-use Rattle.ep_driver.specs.Answers.{Settles, verdict_status, verdict_text}
+use Rattle.ep_driver.specs.Answers.{Settles, verdict_status}
+use Rattle.ep_said.specs.Verdicts.{verdict_text}
 use Rattle.ep_driver.specs.Commands.{Want}
 use Rattle.ep_driver.specs.Outcomes.{Task}
 use Rattle.ep_outputs.specs.Outputs.{IsFormulaText, IsStepsText, NotesUpTo}

@@ -4,7 +4,7 @@ use Rattle.ep_instance_parts.specs.Instances.{plain_instance, instance_mode}
 use Rattle.ep_instance.specs.declared.judging.Shaped.{Shaped}
 use Rattle.ep_types.specs.Texts.{typed_params_tree}
 use Rattle.ep_tree.specs.Views.{assigned}
-use Rattle.ep_driver.specs.Answers.{wrong_shape_text}
+use Rattle.ep_said.specs.Judgements.{wrong_shape_text}
 use Rattle.ep_driver.specs.Steps.{TellsShape}
 use Rattle.ep_files.specs.declared.status.Status.{Status}
 use Rattle.ep_driver.proofs.Running.{fit-judged, shape-said, shape-stopped}
@@ -32,7 +32,7 @@ returns-in_ok-wrong_shape_text-in-WrongShape c =
     let P : Shaped → Type 0 = λ x. TellsShape mode i s (Ok x) in
     let h : TellsShape mode i s (Ok (Shaped.WrongShape c.in-WrongShape.name)) = subst P c.in-WrongShape.is c.in_ok-assignment.ensures in
     shape-said mode i s h.0 c.in-WrongShape.name Status.Refuted c.in_ok-wrong_shape_text-in-WrongShape.field-0.items h.1 h.2 refl
-    (c.in_ok-wrong_shape_text-in-WrongShape.ensures ∙ ap wrong_shape_text c.text.ensures.text)
+    (c.in_ok-wrong_shape_text-in-WrongShape.ensures.text ∙ ap wrong_shape_text c.text.ensures.text)
 
 pub returns-in_err-judged-in-Fits : goal.returns-in_err-judged-in-Fits
 returns-in_err-judged-in-Fits c =
