@@ -1,0 +1,2 @@
+pub mod ExplanationTexts
+pub mod Told
