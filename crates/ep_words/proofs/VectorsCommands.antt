@@ -4,7 +4,7 @@ use Rattle.ep_tree.specs.declared.values.Mode.{Mode}
 use Rattle.ep_words.specs.Settings.{AreSetOnce, BeginsBySetting, Text}
 use Rattle.ep_words.specs.Jobs.{job_of, number_within, solution_count}
 use Rattle.ep_words.specs.Commands.{IsCommand}
-use Rattle.ep_words.specs.declared.job.Job.TheVariants.{Solve, Enumerate, Opb, Verify, Check, Generate}
+use Rattle.ep_words.specs.declared.job.Job.TheVariants.{Solve, Enumerate, Explain, Opb, Verify, Check, Generate}
 use Rattle.ep_words.proofs.Words.{unnamed}
 
 -- numbers, of at most ten digits, within their range
@@ -28,6 +28,13 @@ all_of_solve = refl
 listing : job_of ((codes "task", codes "enumerate") ∷ (codes "in-eprime", codes "m") ∷ (codes "solutions", codes "all") ∷ [])
     ≡ Some (Enumerate (codes "m") None 1000000 1000000 None None None Mode.Relational)
 listing = refl
+
+explaining : job_of ((codes "task", codes "explain") ∷ (codes "in-eprime", codes "m") ∷ (codes "conflicts", codes "7") ∷ (codes "in-param", codes "p") ∷ (codes "undefined", codes "strict") ∷ [])
+    ≡ Some (Explain (codes "m") (Some (codes "p")) 7 Mode.Strict)
+explaining = refl
+
+explaining_alone : job_of ((codes "task", codes "explain") ∷ (codes "in-eprime", codes "m") ∷ []) ≡ Some (Explain (codes "m") None 1000000 Mode.Relational)
+explaining_alone = refl
 
 pseudo_boolean : job_of ((codes "in-opb", codes "o") ∷ (codes "task", codes "opb") ∷ []) ≡ Some (Opb (codes "o") 1000000)
 pseudo_boolean = refl
@@ -67,6 +74,8 @@ no_jobs : map job_of (
     ∷ ((codes "in-eprime", codes "m") ∷ (codes "conflicts", codes "0") ∷ [])
     ∷ ((codes "in-eprime", codes "m") ∷ (codes "solutions", codes "2") ∷ [])
     ∷ ((codes "in-eprime", codes "m") ∷ (codes "workers", codes "2") ∷ [])
+    ∷ ((codes "task", codes "explain") ∷ [])
+    ∷ ((codes "task", codes "explain") ∷ (codes "in-eprime", codes "m") ∷ (codes "out-solution", codes "s") ∷ [])
     ∷ ((codes "task", codes "opb") ∷ [])
     ∷ ((codes "task", codes "opb") ∷ (codes "in-opb", codes "o") ∷ (codes "undefined", codes "strict") ∷ [])
     ∷ ((codes "task", codes "opb") ∷ (codes "in-opb", codes "o") ∷ (codes "in-eprime", codes "m") ∷ [])
@@ -83,7 +92,7 @@ no_jobs : map job_of (
     ∷ ((codes "task", codes "check") ∷ (codes "in-cnf", codes "c") ∷ (codes "in-log", codes "l") ∷ (codes "undefined", codes "strict") ∷ [])
     ∷ ((codes "task", codes "generate") ∷ (codes "number", codes "0") ∷ (codes "undefined", codes "strict") ∷ [])
     ∷ ((codes "task", codes "Solve") ∷ (codes "in-eprime", codes "m") ∷ [])
-    ∷ []) ≡ None ∷ None ∷ None ∷ None ∷ None ∷ None ∷ None ∷ None ∷ None ∷ None ∷ None ∷ None ∷ None ∷ None ∷ None ∷ None ∷ None ∷ None ∷ None ∷ None ∷ None ∷ None ∷ []
+    ∷ []) ≡ None ∷ None ∷ None ∷ None ∷ None ∷ None ∷ None ∷ None ∷ None ∷ None ∷ None ∷ None ∷ None ∷ None ∷ None ∷ None ∷ None ∷ None ∷ None ∷ None ∷ None ∷ None ∷ None ∷ None ∷ []
 no_jobs = refl
 
 -- a value may begin with `-` behind a `=`, and may have a `=` itself

@@ -6,7 +6,7 @@ use Rattle.ep_base.specs.TokenTexts.{is_number, is_one_of}
 use Rattle.ep_tree.specs.declared.values.Mode.{Mode}
 use Rattle.ep_words.specs.Settings.{Setting, Text, value_of}
 use Rattle.ep_words.specs.declared.job.Job.{Job}
-use Rattle.ep_words.specs.declared.job.Job.TheVariants.{Solve, Enumerate, Opb, Verify, Check, Generate}
+use Rattle.ep_words.specs.declared.job.Job.TheVariants.{Solve, Enumerate, Explain, Opb, Verify, Check, Generate}
 use Rattle.ep_words.specs.declared.task.Task.{Task}
 
 -- ---- numbers
@@ -55,11 +55,12 @@ abbrev pub task_named : Text → Option Task
 task_named text =
     if bytes_eq text (codes "solve") then Some Task.Solve
     else (if bytes_eq text (codes "enumerate") then Some Task.Enumerate
+    else (if bytes_eq text (codes "explain") then Some Task.Explain
     else (if bytes_eq text (codes "opb") then Some Task.Opb
     else (if bytes_eq text (codes "verify") then Some Task.Verify
     else (if bytes_eq text (codes "check") then Some Task.Check
     else (if bytes_eq text (codes "generate") then Some Task.Generate
-    else None)))))
+    else None))))))
 
 -- no option is set but some
 abbrev pub sets_only : List Text → List Setting → Bool
@@ -74,6 +75,9 @@ abbrev pub enumerate_options : List Text
 enumerate_options =
     codes "task" ∷ codes "in-eprime" ∷ codes "in-param" ∷ codes "solutions" ∷ codes "conflicts"
     ∷ codes "out-solution" ∷ codes "out-cnf" ∷ codes "out-log" ∷ codes "undefined" ∷ []
+
+abbrev pub explain_options : List Text
+explain_options = codes "task" ∷ codes "in-eprime" ∷ codes "in-param" ∷ codes "conflicts" ∷ codes "undefined" ∷ []
 
 abbrev pub opb_options : List Text
 opb_options = codes "task" ∷ codes "in-opb" ∷ codes "conflicts" ∷ []
@@ -114,6 +118,16 @@ enumerate_job s =
     (mode_of s))
     (conflicts_of s))
     (option_and_then solution_count (value_of (codes "solutions") s)))
+    (value_of (codes "in-eprime") s)
+
+-- why a model has no solution is explained; its text's name is needed
+abbrev pub explain_job : List Setting → Option Job
+explain_job s =
+    option_and_then (λ in_eprime.
+    option_and_then (λ conflicts.
+    option_map (λ undefined. Explain in_eprime (value_of (codes "in-param") s) conflicts undefined)
+    (mode_of s))
+    (conflicts_of s))
     (value_of (codes "in-eprime") s)
 
 -- a pseudo-Boolean problem is solved; its text's name is needed
@@ -160,6 +174,7 @@ job_within names job settings = if sets_only names settings then job settings el
 abbrev pub job_of_task : Task → List Setting → Option Job
 job_of_task Task.Solve settings = job_within solve_options solve_job settings
 job_of_task Task.Enumerate settings = job_within enumerate_options enumerate_job settings
+job_of_task Task.Explain settings = job_within explain_options explain_job settings
 job_of_task Task.Opb settings = job_within opb_options opb_job settings
 job_of_task Task.Verify settings = job_within verify_options verify_job settings
 job_of_task Task.Check settings = job_within check_options check_job settings

@@ -27,6 +27,13 @@ pub enum Job {
         out_log: Option<Word>,
         undefined: Mode,
     },
+    /// To explain why a model has no solution.
+    Explain {
+        in_eprime: Word,
+        in_param: Option<Word>,
+        conflicts: u64,
+        undefined: Mode,
+    },
     /// To solve a linear pseudo-Boolean problem.
     Opb {
         in_opb: Word,

@@ -1,7 +1,7 @@
 //! What settings ask for.
 
 ghost use Rattle.std.specs.Prelude.{◌≡◌, MatchResult};
-ghost use Rattle.ep_words.specs.Jobs.{job_of, job_of_task, job_within, solve_options, solve_job, enumerate_options, enumerate_job, opb_options, opb_job, verify_options, verify_job, check_options, check_job, generate_options, generate_job, task_of};
+ghost use Rattle.ep_words.specs.Jobs.{job_of, job_of_task, job_within, solve_options, solve_job, enumerate_options, enumerate_job, explain_options, explain_job, opb_options, opb_job, verify_options, verify_job, check_options, check_job, generate_options, generate_job, task_of};
 ghost use Rattle.ep_words.specs.Views.{settings_of};
 
 use crate::errors::WordsError;
@@ -45,6 +45,7 @@ fn job_of_task(alloc: Global, task: Task, settings: &ArgMatches) -> Result<Job, 
     match task {
         Task::Solve => solve(alloc, settings),
         Task::Enumerate => enumerate(alloc, settings),
+        Task::Explain => explain(alloc, settings),
         Task::Opb => opb(alloc, settings),
         Task::Verify => verify(alloc, settings),
         Task::Check => check(alloc, settings),
@@ -118,6 +119,27 @@ fn enumerate(alloc: Global, settings: &ArgMatches) -> Result<Job, WordsError>
         out_solution: word_in(alloc, settings, "out-solution")?,
         out_cnf: word_in(alloc, settings, "out-cnf")?,
         out_log: word_in(alloc, settings, "out-log")?,
+        undefined,
+    })
+}
+
+fn explain(alloc: Global, settings: &ArgMatches) -> Result<Job, WordsError>
+    ensures { MatchResult result
+        (λ job. job_within explain_options explain_job (settings_of settings.now) ≡ Some job)
+        (λ error. error ≡ WordsError.Usage
+        → job_within explain_options explain_job (settings_of settings.now) ≡ None) }
+{
+    let allowed = ["task", "in-eprime", "in-param", "conflicts", "undefined"];
+    if !set_only(settings, &allowed) {
+        return Err(WordsError::Usage);
+    }
+    let in_eprime = needed_word(alloc, settings, "in-eprime")?;
+    let conflicts = conflicts(settings).ok_or(WordsError::Usage)?;
+    let undefined = mode_in(settings).ok_or(WordsError::Usage)?;
+    Ok(Job::Explain {
+        in_eprime,
+        in_param: word_in(alloc, settings, "in-param")?,
+        conflicts,
         undefined,
     })
 }

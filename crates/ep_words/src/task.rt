@@ -8,6 +8,7 @@ ghost use Rattle.ep_words.specs.Jobs.{task_named};
 pub(crate) enum Task {
     Solve,
     Enumerate,
+    Explain,
     Opb,
     Verify,
     Check,
@@ -23,6 +24,9 @@ pub(crate) fn named(name: &str) -> Option<Task>
     }
     if name == "enumerate" {
         return Some(Task::Enumerate);
+    }
+    if name == "explain" {
+        return Some(Task::Explain);
     }
     if name == "opb" {
         return Some(Task::Opb);

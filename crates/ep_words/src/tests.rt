@@ -23,7 +23,7 @@ fn answer_to(alloc: Global, line: &str) -> Result<String, Fail> {
 }
 
 /// Lines, each with the job that it asks for.
-const COMMANDS: [(&str, &str); 10] = [
+const COMMANDS: [(&str, &str); 12] = [
     (
         "--in-eprime m",
         "Solve { in_eprime: Word { text: \"m\" }, in_param: None, conflicts: 1000000, \
@@ -39,6 +39,15 @@ const COMMANDS: [(&str, &str); 10] = [
         "--undefined strict --in-eprime m",
         "Solve { in_eprime: Word { text: \"m\" }, in_param: None, conflicts: 1000000, \
          out_solution: None, out_cnf: None, out_log: None, undefined: Strict }",
+    ),
+    (
+        "--task explain --in-eprime m --in-param p",
+        "Explain { in_eprime: Word { text: \"m\" }, in_param: Some(Word { text: \"p\" }), conflicts: 1000000, \
+         undefined: Relational }",
+    ),
+    (
+        "--task explain --conflicts 7 --in-eprime m --undefined strict",
+        "Explain { in_eprime: Word { text: \"m\" }, in_param: None, conflicts: 7, undefined: Strict }",
     ),
     (
         "--task opb --in-opb o --conflicts 7",
@@ -75,7 +84,7 @@ const COMMANDS: [(&str, &str); 10] = [
 ];
 
 /// Lines that are no command.
-const NO_COMMANDS: [&str; 31] = [
+const NO_COMMANDS: [&str; 33] = [
     "--task solve",
     "",
     "--in-eprime m --conflicts 0",
@@ -98,6 +107,8 @@ const NO_COMMANDS: [&str; 31] = [
     "--in-eprime m --undefined lax",
     "--in-eprime m --undefined=",
     "--in-eprime m --undefined strict --undefined strict",
+    "--task explain --in-param p",
+    "--task explain --in-eprime m --out-log l",
     "--task opb",
     "--task opb --in-opb o --in-eprime m",
     "--in-eprime m --in-opb o",
