@@ -4,11 +4,11 @@ use Rattle.std.proofs.lemmas.Bool.{cases_Bool}
 use Rattle.std.proofs.lemmas.Bool.Decides.{nat_tests}
 use Rattle.std.specs.Str.Parse.{digits_value}
 use Rattle.ep_base.specs.TokenTexts.{is_number}
-use Rattle.ep_words.specs.Jobs.{check_job, check_options, conflicts_of as set_conflicts, enumerate_job, enumerate_options, generate_job, generate_options, job_of, mode_of, number_or, number_within, opb_job, opb_options, sets_only, solution_count, solve_job, solve_options, verify_job, verify_options, workers_of}
+use Rattle.ep_words.specs.Jobs.{check_job, check_options, conflicts_of as set_conflicts, enumerate_job, enumerate_options, explain_job, explain_options, generate_job, generate_options, job_of, mode_of, number_or, number_within, opb_job, opb_options, sets_only, solution_count, solve_job, solve_options, verify_job, verify_options, workers_of}
 use Rattle.ep_words.specs.Settings.{Setting, Text, value_of}
 use Rattle.ep_tree.specs.declared.values.Mode.{Mode}
-use Rattle.ep_driver.specs.Commands.{Want, conflicts_wanted, wanted_of}
-use Rattle.ep_driver.specs.Searches.{HasTexts, IsSearchFor}
+use Rattle.ep_driver.specs.Commands.{Want, conflicts_wanted, no_outputs, wanted_of}
+use Rattle.ep_driver.specs.Searches.{CanBeRequested, CanBeWanted, IsSearchFor}
 use Rattle.ep_words.specs.declared.job.Job.{Job}
 use Rattle.ep_driver.specs.declared.wanted.Outputs.{Outputs}
 use Rattle.ep_driver.specs.declared.wanted.Request.{Request}
@@ -73,6 +73,7 @@ kept-number text n e = bounded-number (is_number text && nat_le (length text) 10
 abbrev HasBudget : Job → Type 0
 HasBudget (Job.Solve _ _ conflicts _ _ _ _) = 1 ≤ conflicts
 HasBudget (Job.Enumerate _ _ _ conflicts _ _ _ _) = 1 ≤ conflicts
+HasBudget (Job.Explain _ _ conflicts _) = 1 ≤ conflicts
 HasBudget (Job.Opb _ conflicts) = 1 ≤ conflicts
 HasBudget (Job.Verify _ _ _ _) = Unit {0}
 HasBudget (Job.Check _ _ _) = Unit {0}
@@ -94,6 +95,14 @@ enumerate-budget s job e =
     (λ m. all-and-then HasBudget (λ k. option_and_then (λ n. option_map (make m k n) (mode_of s)) (set_conflicts s))
     (λ k. all-within HasBudget (λ n. option_map (make m k n) (mode_of s)) (set_conflicts s)
     (λ n f. all-mapped HasBudget (make m k n) (mode_of s) (λ u g. set-number (value_of (codes "conflicts") s) n f))) most)
+    (value_of (codes "in-eprime") s) job e
+
+explain-budget : (s : List Setting) (job : Job) → explain_job s ≡ Some job → HasBudget job
+explain-budget s job e =
+    let make : Text → ℕ → Mode → Job = λ m n u. Job.Explain m (value_of (codes "in-param") s) n u in
+    all-and-then HasBudget (λ m. option_and_then (λ n. option_map (make m n) (mode_of s)) (set_conflicts s))
+    (λ m. all-within HasBudget (λ n. option_map (make m n) (mode_of s)) (set_conflicts s)
+    (λ n f. all-mapped HasBudget (make m n) (mode_of s) (λ u g. set-number (value_of (codes "conflicts") s) n f)))
     (value_of (codes "in-eprime") s) job e
 
 opb-budget : (s : List Setting) (job : Job) → opb_job s ≡ Some job → HasBudget job
@@ -132,15 +141,18 @@ job-budget s job e =
       | inl solve ↦ if-chosen HasBudget (sets_only solve_options s) (solve_job s) job (λ k f. solve-budget s k f) (rw solve at e)
       | inr a ↦ let e1 = rw a at e in elim (cases_Bool (bytes_eq name (codes "enumerate"))) [
         | inl enumerate ↦ if-chosen HasBudget (sets_only enumerate_options s) (enumerate_job s) job (λ k f. enumerate-budget s k f) (rw enumerate at e1)
-        | inr o ↦ let e2 = rw o at e1 in elim (cases_Bool (bytes_eq name (codes "opb"))) [
-          | inl opb ↦ if-chosen HasBudget (sets_only opb_options s) (opb_job s) job (λ k f. opb-budget s k f) (rw opb at e2)
-          | inr b ↦ let e3 = rw b at e2 in elim (cases_Bool (bytes_eq name (codes "verify"))) [
-            | inl verify ↦ if-chosen HasBudget (sets_only verify_options s) (verify_job s) job (λ k f. verify-budget s k f) (rw verify at e3)
-            | inr c ↦ let e4 = rw c at e3 in elim (cases_Bool (bytes_eq name (codes "check"))) [
-              | inl check ↦ if-chosen HasBudget (sets_only check_options s) (check_job s) job (λ k f. check-budget s k f) (rw check at e4)
-              | inr d ↦ let e5 = rw d at e4 in elim (cases_Bool (bytes_eq name (codes "generate"))) [
-                | inl generate ↦ if-chosen HasBudget (sets_only generate_options s) (generate_job s) job (λ k f. generate-budget s k f) (rw generate at e5)
-                | inr f ↦ let none = rw f at e5 in absurd cc
+        | inr w ↦ let e2 = rw w at e1 in elim (cases_Bool (bytes_eq name (codes "explain"))) [
+          | inl explain ↦ if-chosen HasBudget (sets_only explain_options s) (explain_job s) job (λ k f. explain-budget s k f) (rw explain at e2)
+          | inr o ↦ let e3 = rw o at e2 in elim (cases_Bool (bytes_eq name (codes "opb"))) [
+            | inl opb ↦ if-chosen HasBudget (sets_only opb_options s) (opb_job s) job (λ k f. opb-budget s k f) (rw opb at e3)
+            | inr b ↦ let e4 = rw b at e3 in elim (cases_Bool (bytes_eq name (codes "verify"))) [
+              | inl verify ↦ if-chosen HasBudget (sets_only verify_options s) (verify_job s) job (λ k f. verify-budget s k f) (rw verify at e4)
+              | inr c ↦ let e5 = rw c at e4 in elim (cases_Bool (bytes_eq name (codes "check"))) [
+                | inl check ↦ if-chosen HasBudget (sets_only check_options s) (check_job s) job (λ k f. check-budget s k f) (rw check at e5)
+                | inr d ↦ let e6 = rw d at e5 in elim (cases_Bool (bytes_eq name (codes "generate"))) [
+                  | inl generate ↦ if-chosen HasBudget (sets_only generate_options s) (generate_job s) job (λ k f. generate-budget s k f) (rw generate at e6)
+                  | inr f ↦ let none = rw f at e6 in absurd cc
+                ]
               ]
             ]
           ]
@@ -150,9 +162,9 @@ job-budget s job e =
 
 -- ---- what is wanted
 
--- a search that is wanted may take a conflict, and a number that is wanted has texts
+-- a search that is wanted may take a conflict, an explanation names no output, and a number that is wanted has texts
 abbrev IsAllowed : Wanted → Type 0
-IsAllowed (Wanted.Search _ _ _ request _) = 1 ≤ conflicts_wanted request
+IsAllowed (Wanted.Search _ _ _ request outputs) = (1 ≤ conflicts_wanted request) × CanBeRequested request outputs
 IsAllowed (Wanted.Opb _ conflicts) = 1 ≤ conflicts
 IsAllowed (Wanted.Verify _ _ _ _) = Unit {0}
 IsAllowed (Wanted.Check _ _ _) = Unit {0}
@@ -163,11 +175,14 @@ unfolding wanted_of conflicts_wanted
 wanted-allowed (Job.Solve m p n o c l u) has wanted e =
     let outputs : Outputs = record { formula = c; log = l; solution = o } in
     let same : Wanted.Search m p u (Request.One n) outputs ≡ wanted = cc in
-    subst IsAllowed same has
+    subst IsAllowed same (has, tt)
 wanted-allowed (Job.Enumerate m p most n o c l u) has wanted e =
     let outputs : Outputs = record { formula = c; log = l; solution = o } in
     let same : Wanted.Search m p u (Request.Many most n) outputs ≡ wanted = cc in
-    subst IsAllowed same has
+    subst IsAllowed same (has, tt)
+wanted-allowed (Job.Explain m p n u) has wanted e =
+    let same : Wanted.Search m p u (Request.Explained n) no_outputs ≡ wanted = cc in
+    subst IsAllowed same (has, refl)
 wanted-allowed (Job.Opb o n) has wanted e =
     let same : Wanted.Opb o n ≡ wanted = cc in subst IsAllowed same has
 wanted-allowed (Job.Verify m t p u) has wanted e =
@@ -182,23 +197,23 @@ wants-allowed words wanted want =
     wanted-allowed want.0 (job-budget want.1.settings want.0 want.1.asks) wanted want.2
 
 allowed-budget : (wanted : Wanted) (conflicts : ℕ) → IsAllowed wanted → IsSearchFor wanted conflicts → 1 ≤ conflicts
-allowed-budget (Wanted.Search m p u request o) conflicts allowed is = subst (λ (n : ℕ). 1 ≤ n) (sym is) allowed
+allowed-budget (Wanted.Search m p u request o) conflicts allowed is = subst (λ (n : ℕ). 1 ≤ n) (sym is) allowed.0
 allowed-budget (Wanted.Opb opb most) conflicts allowed is = subst (λ (n : ℕ). 1 ≤ n) (sym is) allowed
 allowed-budget (Wanted.Verify m p u s) conflicts allowed is = absurd is
 allowed-budget (Wanted.Check f l w) conflicts allowed is = absurd is
 allowed-budget (Wanted.Generate number most eprime param) conflicts allowed is = subst (λ (n : ℕ). 1 ≤ n) (sym is) allowed.0
 
-allowed-texts : (wanted : Wanted) → IsAllowed wanted → HasTexts wanted
-allowed-texts (Wanted.Search m p u request o) allowed = tt
-allowed-texts (Wanted.Opb opb conflicts) allowed = tt
-allowed-texts (Wanted.Verify m p u s) allowed = tt
-allowed-texts (Wanted.Check f l w) allowed = tt
-allowed-texts (Wanted.Generate number conflicts eprime param) allowed = allowed.1
+allowed-possible : (wanted : Wanted) → IsAllowed wanted → CanBeWanted wanted
+allowed-possible (Wanted.Search m p u request o) allowed = allowed.1
+allowed-possible (Wanted.Opb opb conflicts) allowed = tt
+allowed-possible (Wanted.Verify m p u s) allowed = tt
+allowed-possible (Wanted.Check f l w) allowed = tt
+allowed-possible (Wanted.Generate number conflicts eprime param) allowed = allowed.1
 
 -- words that want a search allow it a conflict
 pub wants-budget : (words : List (List ℕ)) (wanted : Wanted) (conflicts : ℕ) → Want words wanted → IsSearchFor wanted conflicts → 1 ≤ conflicts
 wants-budget words wanted conflicts want is = allowed-budget wanted conflicts (wants-allowed words wanted want) is
 
--- a number that words want has texts
-pub wants-texts : (words : List (List ℕ)) (wanted : Wanted) → Want words wanted → HasTexts wanted
-wants-texts words wanted want = allowed-texts wanted (wants-allowed words wanted want)
+-- what words want can be wanted
+pub wants-possible : (words : List (List ℕ)) (wanted : Wanted) → Want words wanted → CanBeWanted wanted
+wants-possible words wanted want = allowed-possible wanted (wants-allowed words wanted want)

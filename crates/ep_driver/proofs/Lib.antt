@@ -13,6 +13,7 @@ mod Promises
 mod Once
 mod ShownTexts
 mod OpbReplies
+mod Explanations
 mod Allowed
 mod Files
 mod Certified

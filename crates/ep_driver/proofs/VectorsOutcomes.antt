@@ -55,6 +55,10 @@ verify-runs : wanted_of (Job.Verify m s (Some m) Mode.Strict) ≡ Wanted.Verify 
 unfolding wanted_of
 verify-runs = refl
 
+explain-runs : wanted_of (Job.Explain m (Some s) 7 Mode.Strict) ≡ Wanted.Search m (Some s) Mode.Strict (Request.Explained 7) no_outputs
+unfolding wanted_of
+explain-runs = refl
+
 opb-runs : wanted_of (Job.Opb m 7) ≡ Wanted.Opb m 7
 unfolding wanted_of
 opb-runs = refl

@@ -10,6 +10,9 @@ use Rattle.cnf_core.specs.Events.{LogState}
 use Rattle.log_check.specs.Verdict.{verdict_of}
 use Rattle.log_check.specs.declared.Verdict.{Verdict}
 use Rattle.log_check.specs.declared.Verdict.TheVariants.{BadStep, NoEmptyClause, Verified}
+use Rattle.ep_explain.specs.Tried.{IsRightExplanation, ends_spent}
+use Rattle.ep_explain.specs.declared.explaining.Explained.{Explained}
+use Rattle.ep_explain_text.specs.ExplanationTexts.{explanation_text}
 use Rattle.ep_solve.specs.Listed.{Lists}
 use Rattle.ep_solve.specs.Logged.{IsLogged}
 use Rattle.ep_solve.specs.Right.{IsRight}
@@ -18,7 +21,7 @@ use Rattle.opb_answer.specs.Lines.{answer_lines}
 use Rattle.opb_answer.specs.Right.{IsRightOpb}
 use Rattle.opb_solve.specs.Logged.{IsOpbLogged}
 use Rattle.opb_solve.specs.Replies.{is_spent}
-use Rattle.ep_driver.specs.Outcomes.{Task, to_check, to_generate, to_judge, to_list, to_solve, to_solve_opb}
+use Rattle.ep_driver.specs.Outcomes.{Task, to_check, to_explain, to_generate, to_judge, to_list, to_solve, to_solve_opb}
 use Rattle.ep_files.specs.declared.status.Status.{Status}
 use Rattle.ep_said.specs.Judgements.{judgement_text, wrong_shape_text}
 use Rattle.ep_said.specs.Summaries.{summary_text}
@@ -51,6 +54,10 @@ spent_status false = Status.Answered
 abbrev pub opb_status : OpbFound → Status
 opb_status found = spent_status (is_spent found)
 
+-- how a run ends that explains why there is no solution
+abbrev pub explanation_status : Explained → Status
+explanation_status said = spent_status (ends_spent said)
+
 -- how a run ends that checks a proof: answered exactly where it is verified
 unfoldable pub verdict_status : Verdict → Status
 verdict_status Verified = Status.Answered
@@ -69,6 +76,9 @@ Settles (to_solve mode i conflicts) status text log = SettlesBy answer_text mode
 Settles (to_list mode i most conflicts) status text log =
     (listing : ListingTree) × Lists mode i conflicts most log listing
     × (status ≡ listing_status listing.ending) × (text ≡ listing_text listing)
+Settles (to_explain mode i conflicts) status text log =
+    (said : Explained) × IsRightExplanation mode i conflicts log said
+    × (status ≡ explanation_status said) × (text ≡ explanation_text conflicts said)
 Settles (to_judge mode i (fits a)) status text log =
     (found : Found) × Fits i a found
     × (status ≡ judgement_status (judgement mode i found))

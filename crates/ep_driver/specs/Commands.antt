@@ -6,15 +6,20 @@ use Rattle.ep_driver.specs.declared.wanted.Outputs.{Outputs}
 use Rattle.ep_driver.specs.declared.wanted.Request.{Request}
 use Rattle.ep_driver.specs.declared.wanted.Wanted.{Wanted}
 
+-- no file is named for output
+abbrev pub no_outputs : Outputs
+no_outputs = record { formula = None; log = None; solution = None }
+
 -- What a job wants of a run: to search for one solution of a model or for many, and to write the formula, the steps of the log and
--- the answer into files where they are named; or to verify a solution; each in a mode of undefinedness; or to solve a pseudo-Boolean
--- problem; or to check a proof of a formula, by so many workers; or to solve the texts of a number, and to write them where files are
--- named.
+-- the answer into files where they are named; or to explain why there is none; or to verify a solution; each in a mode of
+-- undefinedness; or to solve a pseudo-Boolean problem; or to check a proof of a formula, by so many workers; or to solve the texts of a
+-- number, and to write them where files are named.
 unfoldable pub wanted_of : Job → Wanted
 wanted_of (Job.Solve model params conflicts solution formula log mode) =
     Wanted.Search model params mode (Request.One conflicts) (record { formula = formula; log = log; solution = solution })
 wanted_of (Job.Enumerate model params solutions conflicts solution formula log mode) =
     Wanted.Search model params mode (Request.Many solutions conflicts) (record { formula = formula; log = log; solution = solution })
+wanted_of (Job.Explain model params conflicts mode) = Wanted.Search model params mode (Request.Explained conflicts) no_outputs
 wanted_of (Job.Opb opb conflicts) = Wanted.Opb opb conflicts
 wanted_of (Job.Verify model solution params mode) = Wanted.Verify model params mode solution
 wanted_of (Job.Check formula proof workers) = Wanted.Check formula proof workers
@@ -48,8 +53,5 @@ IsJudgement (Wanted.Generate number conflicts eprime param) = ⊥
 unfoldable pub conflicts_wanted : Request → ℕ
 conflicts_wanted (Request.One conflicts) = conflicts
 conflicts_wanted (Request.Many most conflicts) = conflicts
+conflicts_wanted (Request.Explained conflicts) = conflicts
 conflicts_wanted (Request.Generated number conflicts) = conflicts
-
--- no file is named for output
-abbrev pub no_outputs : Outputs
-no_outputs = record { formula = None; log = None; solution = None }

@@ -1,9 +1,11 @@
 -- What a run promises of what it put out: it is true of the texts that the words name.
 --
 -- Of the verdict on a proof, and of a number's own texts, nothing is said here.
-use Rattle.std.specs.Prelude.{◌≡◌, ℕ, ℤ, List, Option, Some, None}
+use Rattle.std.specs.Prelude.{◌≡◌, ◌⊎◌, ℕ, ℤ, List, Option, Some, None}
 use Rattle.ep_base.specs.Outside.{Held}
-use Rattle.ep_print.specs.Answers.{AnswerTree, answer_text}
+use Rattle.ep_explain.specs.Explained.{Core, Explains, IsWrittenSolution, without_goal}
+use Rattle.ep_explain_text.specs.ExplanationTexts.{core_text}
+use Rattle.ep_print.specs.Answers.{AnswerTree, answer_text, solution, unknown}
 use Rattle.ep_print.specs.Listings.{ListingTree, listing_text}
 use Rattle.ep_promise.specs.Promise.{AreTrueOf, GivesAssignment, IsSolutionOf, IsTrueOf, Make}
 use Rattle.ep_tree.specs.Binding.{Instance}
@@ -33,8 +35,16 @@ pub record FilesMake (held : Held) (mode : Mode) (model : List ℕ) (params : Op
   pub params_held : HoldsGiven held params given
   pub make : Make mode text given i
 
--- What was put out is the text of an answer, or of a list of solutions, that is true of the instance which the files make; or it
--- says with status 0 that the assignment of a solution text is a solution, and that is so; or it is the lines of an answer that is right
+-- What is told of an instance is so, its objective aside: that an assignment is a solution; or that some of its clauses have no solution
+-- together, and beside each of them a solution of it with all others of them alone; or that the conflicts were spent.
+abbrev pub IsExplanation : Mode → Instance → ℕ → Status → List ℕ → Type 0
+IsExplanation mode i conflicts status text =
+    ((status ≡ Status.Answered) × (a : Assigned) × IsWrittenSolution mode (without_goal i) a × (text ≡ answer_text (solution a)))
+    ⊎ ((status ≡ Status.Answered) × (core : Core) × Explains mode i core × (text ≡ core_text core))
+    ⊎ ((status ≡ Status.Unknown) × (text ≡ answer_text (unknown conflicts)))
+
+-- What was put out is the text of an answer, or of a list of solutions, that is true of the instance which the files make; or of what
+-- explains why that has no solution; or it says with status 0 that the assignment of a solution text is a solution, and that is so; or it is the lines of an answer that is right
 -- for the pseudo-Boolean problem that the file's text spells.
 unfoldable pub IsPromised : Held → Wanted → Status → List ℕ → Type 0
 IsPromised held (Wanted.Search model params mode (Request.One conflicts) outputs) status text =
@@ -44,6 +54,8 @@ IsPromised held (Wanted.Search model params mode (Request.Many most conflicts) o
     (i : Instance) × FilesMake held mode model params i
     × (listing : ListingTree) × AreTrueOf mode i listing × (status ≡ listing_status listing.ending)
     × (text ≡ listing_text listing)
+IsPromised held (Wanted.Search model params mode (Request.Explained conflicts) outputs) status text =
+    (i : Instance) × FilesMake held mode model params i × IsExplanation mode i conflicts status text
 IsPromised held (Wanted.Verify model params mode solution) status text =
     (i : Instance) × FilesMake held mode model params i
     × (solution_text : List ℕ) × (held solution ≡ Some solution_text)

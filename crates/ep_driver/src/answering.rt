@@ -10,9 +10,9 @@ ghost use Rattle.ep_print.specs.Answers.{answer_tree};
 ghost use Rattle.ep_print.specs.Listings.{end_tree};
 ghost use Rattle.ep_solve.specs.Right.{empty_log};
 ghost use Rattle.sat_search.specs.Logs.{IsSound};
-ghost use Rattle.ep_driver.specs.Answers.{Settles, answer_status, listing_status};
+ghost use Rattle.ep_driver.specs.Answers.{Settles, answer_status, listing_status, spent_status};
 ghost use Rattle.ep_driver.specs.Commands.{conflicts_wanted};
-ghost use Rattle.ep_driver.specs.Outcomes.{searched_task, to_list, to_solve};
+ghost use Rattle.ep_driver.specs.Outcomes.{searched_task, to_explain, to_list, to_solve};
 ghost use Rattle.ep_driver.specs.Steps.{IsSearched};
 
 use super::replies::Reply;
@@ -20,6 +20,7 @@ use super::summaries::summed_reply;
 use super::wanted::Request;
 use cnf_core::Log;
 use ep_base::Memory;
+use ep_explain_text::tell;
 use ep_files::Status;
 use ep_instance::Instance;
 use ep_print::{Answer, ListingEnd, print_answer, print_listing};
@@ -46,6 +47,7 @@ pub fn searched_reply(
     match request {
         Request::One { conflicts } => solved_reply(alloc, instance, conflicts, log),
         Request::Many { most, conflicts } => listed_reply(alloc, instance, most, conflicts, log),
+        Request::Explained { conflicts } => explained_reply(alloc, instance, conflicts, log),
         Request::Generated { number, conflicts } => {
             summed_reply(alloc, instance, number, conflicts, log)
         }
@@ -99,6 +101,39 @@ fn listed_reply(
         status: listing_status(listing.end),
         text,
     })
+}
+
+/// What is told of why an instance has no solution, each attempt within so many conflicts.
+fn explained_reply(
+    alloc: Global,
+    instance: &Instance,
+    conflicts: u64,
+    log: &mut Log,
+) -> Result<Reply, Memory>
+    requires closed { IsClosed (plain_instance instance.now) }
+    requires numbers { All (λ f. All IsWithinNumbers f.values) (plain_instance instance.now).finds }
+    requires within { instance_limits (instance_mode instance.now) (plain_instance instance.now) ≡ [] }
+    requires empty { log.old ≡ empty_log }
+    ensures answers { IfOk result (λ reply.
+        Settles (to_explain (instance_mode instance.now) (plain_instance instance.now) conflicts) reply.status reply.text.items log.new) }
+    ensures ends { IfOk result (λ reply. IsSearched conflicts reply.status log.new) }
+    ensures sound { IsSound log.new.events }
+{
+    let told = tell(alloc, instance, conflicts, log)?;
+    Ok(Reply {
+        status: spent_status(told.is_open),
+        text: told.text,
+    })
+}
+
+/// How a run ends whose conflicts were spent, or that has an answer.
+pub fn spent_status(spent: bool) -> Status
+    ensures { result ≡ spent_status spent }
+{
+    if spent {
+        return Status::Unknown;
+    }
+    Status::Answered
 }
 
 /// How a run ends that has an answer.

@@ -5,15 +5,15 @@ ghost use Rattle.ep_base.specs.Outside.{Rose};
 ghost use Rattle.ep_files.specs.Readings.{IsReadBy};
 ghost use Rattle.ep_solve.specs.Right.{empty_log};
 ghost use Rattle.sat_text.specs.Writing.{IsReadableNote};
-ghost use Rattle.ep_driver.specs.Answers.{spent_status};
 ghost use Rattle.ep_driver.specs.Shown.{IsOpbTextReadAs, ThenShows, is_opb_task};
 ghost use Rattle.ep_driver.specs.Steps.{EndsBy, IsSearched, TellsShown, TellsTask};
 
+use super::answering::spent_status;
 use super::errors::opb_stop;
 use super::replies::Reply;
 use cnf_core::Log;
 use ep_base::{Files, Word};
-use ep_files::{Status, Stop, read_bytes};
+use ep_files::{Stop, read_bytes};
 use opb_solve::{opb_texts_come_to_one_thing, reply_to_opb};
 use opb_text::MOST_BYTES;
 use std::alloc::Global;
@@ -53,14 +53,4 @@ fn opb_reply(alloc: Global, text: &[u8], conflicts: u64, log: &mut Log) -> Resul
         }),
         Err(stop) => Err(opb_stop(stop)),
     }
-}
-
-/// How a run ends whose conflicts were spent, or that has an answer.
-fn spent_status(spent: bool) -> Status
-    ensures { result ≡ spent_status spent }
-{
-    if spent {
-        return Status::Unknown;
-    }
-    Status::Answered
 }

@@ -7,7 +7,7 @@ ghost use Rattle.ep_tree.specs.Views.{model_tree, params_tree};
 ghost use Rattle.sat_text.specs.Writing.{IsReadableNote};
 ghost use Rattle.ep_driver.specs.Commands.{conflicts_wanted, files_of};
 ghost use Rattle.ep_driver.specs.Outcomes.{search_outcome, verify_outcome};
-ghost use Rattle.ep_driver.specs.Searches.{HasTexts};
+ghost use Rattle.ep_driver.specs.Searches.{CanBeWanted, LogsInstance, NotesMayBeWritten};
 ghost use Rattle.ep_driver.specs.Shown.{ComesTo, comes_to_check, comes_to_judge, comes_to_search, comes_to_verify};
 ghost use Rattle.ep_solve.specs.Right.{empty_log};
 ghost use Rattle.ep_driver.specs.Steps.{AnswersTexts, EndsAs, EndsBy, IsJudgedEnd, IsSearched, TellsReply, TellsTask};
@@ -39,12 +39,12 @@ pub fn do_wanted<R: Threads + Sync, F: Files>(
     log: &mut Log,
 ) -> Result<Reply, Stop>
     requires empty { log.old ≡ empty_log }
-    requires texts { HasTexts wanted.now }
+    requires possible { CanBeWanted wanted.now }
     ensures tells { TellsTask (files_of wanted.now) (ComesTo wanted.now) (F.held files.old)
         (Rose (F.faults files.old) (F.faults files.new)) log.new result }
     ensures generated { IfOk result (λ reply. AnswersTexts wanted.now reply log.new) }
     ensures ends { EndsAs wanted.now log.new result }
-    ensures readable { IfOk result (λ reply. All IsReadableNote log.new.notes) }
+    ensures readable { IfOk result (λ reply. NotesMayBeWritten wanted.now → All IsReadableNote log.new.notes) }
     ensures held { F.held files.new ≡ F.held files.old }
     ensures faults { F.faults files.old ≤ F.faults files.new }
 {
@@ -100,7 +100,7 @@ fn search_model<F: Files>(
     ensures tells { TellsTask (option_to_list params.now) (comes_to_search mode request params.now (model_tree model))
         (F.held files.old) (Rose (F.faults files.old) (F.faults files.new)) log.new result }
     ensures ends { EndsBy (λ status. IsSearched (conflicts_wanted request) status log.new) log.new result }
-    ensures readable { IfOk result (λ reply. All IsReadableNote log.new.notes) }
+    ensures readable { IfOk result (λ reply. LogsInstance request → All IsReadableNote log.new.notes) }
     ensures held { F.held files.new ≡ F.held files.old }
     ensures faults { F.faults files.old ≤ F.faults files.new }
 {
@@ -181,7 +181,7 @@ pub fn search_texts(
     requires empty { log.old ≡ empty_log }
     ensures tells { TellsReply (search_outcome mode request (model_tree model) (params_tree params)) log.new result }
     ensures ends { EndsBy (λ status. IsSearched (conflicts_wanted request) status log.new) log.new result }
-    ensures readable { IfOk result (λ reply. All IsReadableNote log.new.notes) }
+    ensures readable { IfOk result (λ reply. LogsInstance request → All IsReadableNote log.new.notes) }
 {
     notes_can_be_read();
     let model = checked_model(alloc, model)?;

@@ -58,10 +58,11 @@ pub fn run<R: Threads + Sync, F: Files, K: Sink>(
         × Want words.now wanted × IsPromised held wanted result text
         × (K.taken out.new ≡ with_more text (K.taken out.old))) }
     // An answer is right for the task that the words and the held files show: an optimum or a solution, that there is none, or
-    // that the conflicts were spent, with the best solution so far; a list of solutions, and whether these are all; a judgement
-    // of a solution text; an answer to a pseudo-Boolean problem; the verdict on a proof of a formula; the summary of a number's
-    // texts. Its text was put out, and nothing else, and the files that the words name for output are written. The log shows the
-    // answer of a search.
+    // that the conflicts were spent, with the best solution so far; a list of solutions, and whether these are all; clauses that
+    // explain why there is no solution; a judgement of a solution text; an answer to a pseudo-Boolean problem; the verdict on a
+    // proof of a formula; the summary of a number's texts. Its text was put out, and nothing else, and the files that the words name
+    // for output are written. The log shows the answer of a search; where the conflicts were spent on an explanation, that of its
+    // last attempt.
     ensures answered { HasReply result →
         IfSome (F.held files.old) (λ held. (task : Task) × (text : List ℕ)
         × Ask words.now held task × Settles task result text log.new

@@ -69,6 +69,8 @@ pub enum Request {
     One { conflicts: u64 },
     /// At most so many solutions.
     Many { most: u64, conflicts: u64 },
+    /// Which clauses have no solution together, each attempt within so many conflicts.
+    Explained { conflicts: u64 },
     /// A solution of the texts of a number, of which a summary is given.
     Generated { number: u64, conflicts: u64 },
 }
@@ -130,6 +132,22 @@ fn wanted_of(job: Job) -> Wanted
                 formula: out_cnf,
                 log: out_log,
                 solution: out_solution,
+            },
+        },
+        Job::Explain {
+            in_eprime,
+            in_param,
+            conflicts,
+            undefined,
+        } => Wanted::Search {
+            model: in_eprime,
+            params: in_param,
+            mode: undefined,
+            request: Request::Explained { conflicts },
+            outputs: Outputs {
+                formula: None,
+                log: None,
+                solution: None,
             },
         },
         Job::Opb { in_opb, conflicts } => Wanted::Opb {

@@ -4,10 +4,10 @@ ghost use Rattle.std.specs.Prelude.{◌≤◌, All};
 ghost use Rattle.ep_base.specs.Outside.{Rose};
 ghost use Rattle.sat_text.specs.Writing.{IsReadableNote};
 ghost use Rattle.ep_driver.specs.Outputs.{outputs_in_order, written_for};
-ghost use Rattle.ep_driver.specs.Searches.{HasTexts};
+ghost use Rattle.ep_driver.specs.Searches.{CanBeRequested, CanBeWanted, LogsInstance, NotesMayBeWritten};
 ghost use Rattle.ep_outputs.specs.Writes.{TellsWritten};
 
-use super::wanted::{Outputs, Wanted};
+use super::wanted::{Outputs, Request, Wanted};
 use cnf_core::Log;
 use ep_base::Files;
 use ep_files::Stop;
@@ -22,14 +22,16 @@ pub fn write_wanted<F: Files>(
     log: &Log,
     answer: &[u8],
 ) -> Result<(), Stop>
-    requires texts { HasTexts wanted }
-    requires readable { All IsReadableNote log.now.notes }
+    requires possible { CanBeWanted wanted }
+    requires readable { NotesMayBeWritten wanted → All IsReadableNote log.now.notes }
     ensures tells { TellsWritten log.now answer.now (written_for wanted) (F.held files.old) (F.held files.new)
         (Rose (F.faults files.old) (F.faults files.new)) result }
     ensures faults { F.faults files.old ≤ F.faults files.new }
 {
     match wanted {
-        Wanted::Search { outputs, .. } => write_outputs(alloc, files, outputs, log, answer),
+        Wanted::Search {
+            request, outputs, ..
+        } => write_searched(alloc, files, request, outputs, log, answer),
         Wanted::Opb { .. } => Ok(()),
         Wanted::Verify { .. } => Ok(()),
         Wanted::Check { .. } => Ok(()),
@@ -39,6 +41,29 @@ pub fn write_wanted<F: Files>(
             param,
             ..
         } => write_texts(alloc, files, number, eprime, param),
+    }
+}
+
+/// Writes the files that are named for output, of which an explanation has none.
+fn write_searched<F: Files>(
+    alloc: Global,
+    files: &mut F,
+    request: Request,
+    outputs: Outputs,
+    log: &Log,
+    answer: &[u8],
+) -> Result<(), Stop>
+    requires possible { CanBeRequested request outputs }
+    requires readable { LogsInstance request → All IsReadableNote log.now.notes }
+    ensures tells { TellsWritten log.now answer.now (outputs_in_order outputs) (F.held files.old) (F.held files.new)
+        (Rose (F.faults files.old) (F.faults files.new)) result }
+    ensures faults { F.faults files.old ≤ F.faults files.new }
+{
+    match request {
+        Request::One { .. } => write_outputs(alloc, files, outputs, log, answer),
+        Request::Many { .. } => write_outputs(alloc, files, outputs, log, answer),
+        Request::Explained { .. } => Ok(()),
+        Request::Generated { .. } => write_outputs(alloc, files, outputs, log, answer),
     }
 }
 

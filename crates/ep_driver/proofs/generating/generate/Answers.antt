@@ -11,6 +11,7 @@ use Rattle.ep_driver.specs.Shown.{comes_to_parameters}
 use Rattle.ep_driver.specs.Steps.{IsSearched}
 use Rattle.ep_files.specs.Reads.{TellsText}
 use Rattle.ep_driver.specs.declared.wanted.Request.{Request}
+use Rattle.ep_driver.proofs.Noted.{without-premise}
 use Rattle.ep_driver.proofs.Running.{stopped-ends}
 use Rattle.ep_driver.proofs.Saying.{nothing-sound}
 use Rattle.ep_driver.proofs.ShownTexts.{reply-shown, then-shown, unread-shown}
@@ -76,3 +77,6 @@ returns-clause-tells c =
 pub returns-clause-ends : goal.returns-clause-ends
 unfolding conflicts_wanted
 returns-clause-ends c = c.search_texts.ensures.ends
+
+pub returns-clause-readable : goal.returns-clause-readable
+returns-clause-readable c = without-premise c.search_texts.result tt c.search_texts.ensures.readable

@@ -7,7 +7,7 @@ use Rattle.ep_driver.specs.Steps.{AnswersTexts}
 use Rattle.ep_outputs.specs.Writes.{TellsWritten}
 use Rattle.ep_driver.specs.declared.wanted.Wanted.{Wanted}
 use Rattle.ep_words.proofs.SettingLaws.{one_job}
-use Rattle.ep_driver.proofs.Allowed.{wants-texts}
+use Rattle.ep_driver.proofs.Allowed.{wants-possible}
 use Rattle.ep_driver.proofs.Once.{want-once}
 use Rattle.ep_driver.proofs.Saying.{answered-run, refused-run, unread-words, unwritten-run}
 use Rattle.ep_driver.proofs.replies.run_words.Goals as goal
@@ -59,12 +59,12 @@ returns-clause-tells g c =
     c.in_ok-wanted.ensures refl c.in_ok-reply.ensures.held c.in_ok-reply.ensures.ends.1 c.in_ok-reply.ensures.tells
     (subst T c.deref.ensures.value c.in_ok-write_wanted.ensures.tells)
 
-pub do_wanted-requires-clause-texts : goal.do_wanted-requires-clause-texts
-do_wanted-requires-clause-texts g c = λ κs lives. wants-texts c.args.words.now c.in_ok-wanted.wanted c.in_ok-wanted.ensures
+pub do_wanted-requires-clause-possible : goal.do_wanted-requires-clause-possible
+do_wanted-requires-clause-possible g c = λ κs lives. wants-possible c.args.words.now c.in_ok-wanted.wanted c.in_ok-wanted.ensures
 
 pub write_wanted-requires : goal.write_wanted-requires
 write_wanted-requires g c = record {
-  texts = wants-texts c.args.words.now c.in_ok-wanted.wanted c.in_ok-wanted.ensures;
+  possible = wants-possible c.args.words.now c.in_ok-wanted.wanted c.in_ok-wanted.ensures;
   readable = c.in_ok-reply.ensures.readable;
 }
 

@@ -1,5 +1,5 @@
 use Rattle.std.proofs.lemmas.Result.{err_from_is_err_and}
-use Rattle.std.proofs.Common.{[], ◌∷◌, ◌++◌, Err, IfOk, option_to_list, sym, subst}
+use Rattle.std.proofs.Common.{[], ◌∷◌, ◌++◌, All, Err, IfOk, option_to_list, sym, subst}
 use Rattle.cnf_core.specs.Events.{LogState}
 use Rattle.ep_base.proofs.PutSteps.{rose_later}
 use Rattle.ep_base.specs.Outside.{Rose}
@@ -8,13 +8,14 @@ use Rattle.ep_tree.specs.Views.{model_tree}
 use Rattle.ep_driver.specs.Commands.{files_of}
 use Rattle.ep_files.specs.Readings.{IsFormulaReadAs, IsFileReadAs, IsReadBy, IsTextReadAs}
 use Rattle.ep_driver.specs.Shown.{ComesTo, comes_to_check, comes_to_generate, comes_to_search, comes_to_verify}
-use Rattle.ep_driver.specs.Searches.{HasTexts}
+use Rattle.ep_driver.specs.Searches.{CanBeWanted, NotesMayBeWritten}
+use Rattle.sat_text.specs.Writing.{IsReadableNote}
 use Rattle.ep_solve.specs.Right.{empty_log}
 use Rattle.ep_driver.specs.Steps.{AnswersTexts, EndsAs, TellsTask}
 use Rattle.ep_files.specs.Reads.{formula_clauses}
 use Rattle.ep_driver.specs.declared.wanted.Wanted.{Wanted}
 use Rattle.ep_driver.proofs.Chains.{after, stable-file, unread}
-use Rattle.ep_driver.proofs.Noted.{none-readable}
+use Rattle.ep_driver.proofs.Noted.{none-readable, with-premise}
 use Rattle.ep_driver.proofs.Running.{check-ends, stopped-as, verify-ends}
 use Rattle.ep_driver.proofs.ShownTexts.{no-texts, over-shown, shown-answers}
 use Rattle.ep_driver.proofs.runs.do_wanted.Goals as goal
@@ -144,7 +145,7 @@ returns-in-Opb-clause-generated g c =
     subst W (sym c.in-Opb.is) (no-texts c.opb_file_reply.result)
 
 pub generate-requires-clause-within : goal.generate-requires-clause-within
-generate-requires-clause-within g c = subst HasTexts c.in-Generate.is c.requires.texts
+generate-requires-clause-within g c = subst CanBeWanted c.in-Generate.is c.requires.possible
 
 pub returns-in-Generate-clause-tells : goal.returns-in-Generate-clause-tells
 returns-in-Generate-clause-tells g c =
@@ -180,7 +181,18 @@ returns-in-Generate-clause-generated g c =
     subst W (sym c.in-Generate.is) (shown-answers c.in-Generate.number c.in-Generate.conflicts c.generate.new.log c.generate.result c.generate.ensures.tells)
 
 pub returns-in_ok-model-in-Verify-clause-readable : goal.returns-in_ok-model-in-Verify-clause-readable
-returns-in_ok-model-in-Verify-clause-readable g c = none-readable c.verify_model.result c.args.log.now c.requires.empty
+returns-in_ok-model-in-Verify-clause-readable g c = with-premise c.verify_model.result (none-readable c.verify_model.result c.args.log.now c.requires.empty)
 
 pub returns-in_ok-formula-in-Check-clause-readable : goal.returns-in_ok-formula-in-Check-clause-readable
-returns-in_ok-formula-in-Check-clause-readable g c = none-readable c.check_proof.result c.args.log.now c.requires.empty
+returns-in_ok-formula-in-Check-clause-readable g c = with-premise c.check_proof.result (none-readable c.check_proof.result c.args.log.now c.requires.empty)
+
+pub returns-in_ok-model-in-Search-clause-readable : goal.returns-in_ok-model-in-Search-clause-readable
+returns-in_ok-model-in-Search-clause-readable g c =
+    let W : Wanted → Type 0 = λ w. IfOk c.search_model.result (λ reply. NotesMayBeWritten w → All IsReadableNote c.search_model.new.log.notes) in
+    subst W (sym c.in-Search.is) c.search_model.ensures.readable
+
+pub returns-in-Opb-clause-readable : goal.returns-in-Opb-clause-readable
+returns-in-Opb-clause-readable g c = with-premise c.opb_file_reply.result c.opb_file_reply.ensures.readable
+
+pub returns-in-Generate-clause-readable : goal.returns-in-Generate-clause-readable
+returns-in-Generate-clause-readable g c = with-premise c.generate.result c.generate.ensures.readable

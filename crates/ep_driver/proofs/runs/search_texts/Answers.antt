@@ -81,11 +81,11 @@ returns-in_err-reply-clause-tells c =
     rw (p.1, p.2) (search-wanting c.args.mode c.args.request m q i c.searched_reply.new.log none bound)
 
 pub returns-clause-readable : goal.returns-clause-readable
-returns-clause-readable c =
+returns-clause-readable c = λ own.
     let m = model_tree c.args.model in
     let q = params_tree c.args.params in
     let i = plain_instance c.in_ok-instance.instance in
     let bound = same-instance c.args.mode m q (typed_tree c.in_ok-model.model) (typed_params_tree c.in_ok-params.params) i c.in_ok-model.ensures.same c.in_ok-params.ensures.same c.in_ok-instance.ensures.tells in
     let reply = c.in_ok-reply.reply in
     let P : Mode → Type 0 = λ mode. Settles (searched_task mode c.args.request i) reply.status reply.text.items c.searched_reply.new.log in
-    settled-readable c.notes_can_be_read.ensures c.args.mode c.args.request m q i reply.status reply.text.items c.searched_reply.new.log c.requires.spelled bound (subst P c.in_ok-instance.ensures.mode c.in_ok-reply.ensures.answers)
+    settled-readable c.notes_can_be_read.ensures c.args.mode c.args.request m q i reply.status reply.text.items c.searched_reply.new.log c.requires.spelled bound own (subst P c.in_ok-instance.ensures.mode c.in_ok-reply.ensures.answers)
