@@ -5,6 +5,7 @@ import difflib
 TASKS = {
     "solve": ("in-eprime", ["in-param", "conflicts", "out-solution", "out-cnf", "out-log", "undefined"]),
     "enumerate": ("in-eprime solutions", ["in-param", "conflicts", "out-solution", "out-cnf", "out-log", "undefined"]),
+    "explain": ("in-eprime", ["in-param", "conflicts", "undefined"]),
     "opb": ("in-opb", ["conflicts"]),
     "verify": ("in-eprime in-solution", ["in-param", "undefined"]),
     "check": ("in-cnf in-log", ["workers"]),

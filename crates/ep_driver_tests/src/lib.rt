@@ -8,6 +8,8 @@ mod certificates;
 #[cfg(test)]
 mod devices;
 #[cfg(test)]
+mod explained;
+#[cfg(test)]
 mod generated;
 #[cfg(test)]
 mod problems;
