@@ -1,11 +1,13 @@
 //! Clauses that come into a state, with the number of variables that goes with them.
 
-ghost use Rattle.std.specs.Prelude.{◌≡◌, ℕ, ◌≤◌, ◌∷◌, ◌++◌, [], All, IfOk, OnOk, OnErr, map};
+ghost use Rattle.std.specs.Prelude.{◌≡◌, ◌⊎◌, ℕ, ◌≤◌, ◌∷◌, ◌++◌, [], All, IfOk, OnOk, OnErr, map};
 ghost use Rattle.cnf_core.specs.Literal.{VariablesUpTo};
 ghost use Rattle.cnf_core.specs.Events.{given, clause_of, clauses_of, plain_event};
-ghost use Rattle.sat_state.specs.Trail.{level_of};
+ghost use Rattle.sat_state.specs.Trail.{level_of, IsOpenBelow};
 ghost use Rattle.sat_search.specs.Analysis.{IsKnown, AreInRange};
 
+use crate::levels::{go_back, second_level};
+use crate::order::Order;
 use cnf_core::{Clause, Event, Log, MOST_VARIABLE};
 use ep_base::Memory;
 use sat_state::State;
@@ -27,10 +29,11 @@ fn most_variable(clause: &Clause, vars: u64) -> u64
     most
 }
 
-/// Appends a clause at level 0, and answers the number of variables then.
+/// Appends a clause, and answers the number of variables then. Where there are decisions, two of its literals aren't false below
+/// the last level.
 pub fn add(state: &mut State, vars: u64, clause: Clause) -> Result<u64, Memory>
     requires known { IsKnown vars state.old }
-    requires level { level_of state.old.trail ≡ 0 }
+    requires level { (level_of state.old.trail ≡ 0) ⊎ IsOpenBelow state.old.trail clause }
     ensures known { IfOk result (λ now. IsKnown now state.new) }
     ensures clauses { OnOk result (state.new.clauses ≡ state.old.clauses ++ clause ∷ []) }
     ensures trail { OnOk result (state.new.trail ≡ state.old.trail) }
@@ -75,8 +78,15 @@ pub fn state_of(alloc: Global, log: &Log) -> Result<(State, u64), Memory>
     Ok((state, vars))
 }
 
-/// Appends a given to the clauses and to the log, and answers the number of variables then.
-pub fn give(state: &mut State, vars: u64, clause: Clause, log: &mut Log) -> Result<u64, Memory>
+/// Appends a given to the clauses and to the log, and answers the number of variables then. Of the levels only those are left
+/// that the clause leads back to, so that a search goes on from there.
+pub fn give(
+    state: &mut State,
+    order: &mut Order,
+    vars: u64,
+    clause: Clause,
+    log: &mut Log,
+) -> Result<u64, Memory>
     requires known { IsKnown vars state.old }
     ensures known { IfOk result (λ now. IsKnown now state.new) }
     ensures clauses { OnOk result (state.new.clauses ≡ state.old.clauses ++ clause ∷ []) }
@@ -84,8 +94,9 @@ pub fn give(state: &mut State, vars: u64, clause: Clause, log: &mut Log) -> Resu
     ensures err { OnErr result (log.new ≡ log.old) }
 {
     let copy = clause.copied()?;
-    state.backtrack(0);
-    let most = add(state, vars, copy)?;
-    log.given(clause)?;
+    let level = second_level(state, &clause);
+    go_back(state, order, level);
+    let most = add(state, vars, clause)?;
+    log.given(copy)?;
     Ok(most)
 }

@@ -51,10 +51,11 @@ impl Order {
         }
     }
 
-    /// Brings all variables up to this number in, for a search that begins.
+    /// Brings in the variables up to this number that weren't there, for a search that begins.
     pub fn grow(&mut self, vars: u64) -> Result<(), Memory> {
         let wanted = vars.checked_add(1).ok_or(Memory)? as usize;
-        if self.scores.len() < wanted {
+        let known = self.scores.len();
+        if known < wanted {
             self.scores.resize(wanted, 0)?;
             self.phases.resize(wanted, true)?;
             self.best.resize(wanted, None)?;
@@ -62,10 +63,8 @@ impl Order {
             self.heap.reserve(wanted.saturating_sub(self.heap.len()))?;
         }
         self.longest = 0;
-        for var in 1..wanted {
-            if self.heap.len() < wanted {
-                self.insert(narrow(var as u64))?;
-            }
+        for var in known.max(1)..wanted {
+            self.insert(narrow(var as u64))?;
         }
         Ok(())
     }

@@ -20,7 +20,7 @@ use std::alloc::Global;
 /// What the search keeps beside the state: the choice of decisions, what conflicts are explained on, and when it restarts.
 #[derive(Drop)]
 pub struct Tools {
-    order: Order,
+    pub(crate) order: Order,
     analysis: Analysis,
     restarts: Restarts,
 }
@@ -68,6 +68,9 @@ fn decide_in_order(state: &mut State, order: &mut Order, vars: u64) -> Option<u6
 {
     for _ in 0..vars {
         let var = order.place();
+        if var == 0 {
+            break;
+        }
         let falsified = decide(state, vars, var, order.phase(var));
         if falsified.is_some() {
             return falsified;
