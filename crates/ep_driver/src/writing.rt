@@ -30,7 +30,9 @@ pub fn write_wanted<F: Files>(
 {
     match wanted {
         Wanted::Search {
-            request, outputs, ..
+            request,
+            outputs,
+            ..
         } => write_searched(alloc, files, request, outputs, log, answer),
         Wanted::Opb { .. } => Ok(()),
         Wanted::Verify { .. } => Ok(()),
