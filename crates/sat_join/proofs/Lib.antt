@@ -1,4 +1,4 @@
-mod Wider
+pub mod Wider
 mod News
 mod Events
 mod Hinted
