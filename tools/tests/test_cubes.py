@@ -123,8 +123,20 @@ class Cubes(Case):
         self.join("f", 1)
         self.assertEqual(self.checked("f")[0], 7)
 
+    def test_how_much_of_the_search_the_hardest_cube_has(self):
+        self.file("f", SQUARE)
+        # The conflicts that a solver puts out, or the seconds of one that puts out none.
+        counting = self.file("counting", "#!/bin/sh\necho 'c conflicts' $(grep -c -v p $1)\nexit 20\n", True)
+        status, out, err = self.call(CUBES, "shares", "f", "1", "parts", counting)
+        self.assertEqual((status, out, err), (0, "the formula: 4 conflicts, 1.00\nthe hardest cube: 5 conflicts, 1.25\nall 2 cubes: 10 conflicts, 2.50\n", ""))
+        status, out, err = self.call(CUBES, "shares", "f", "1", "parts", self.solver, "{}", "log")
+        self.assertEqual((status, [line.split()[-2] for line in out.splitlines()], err), (0, ["seconds,"] * 3, ""))
+        self.file("f", text_of(2, [[1, 2]]))
+        status, _, err = self.call(CUBES, "shares", "f", "1", "parts", self.solver, "{}", "log")
+        self.assertEqual((status, "ends with status 10" in err), (1, True), err)
+
     def test_words_that_are_none_are_refused(self):
         self.file("f", text_of(1, [[1]]))
         self.file("g", "p cnf one\n")
-        for words in ((), ("split", "f", "1"), ("split", "f", "17", "parts"), ("solve", "f", "1", "parts"), ("split", "g", "1", "parts"), ("split", "none", "1", "parts")):
+        for words in ((), ("split", "f", "1"), ("shares", "f", "1", "parts"), ("split", "f", "1", "parts", "more"), ("split", "f", "17", "parts"), ("solve", "f", "1", "parts"), ("split", "g", "1", "parts"), ("split", "none", "1", "parts")):
             self.assertEqual(self.call(CUBES, *words)[0], 1, words)

@@ -4,6 +4,7 @@ use crate::formulas::{formula_of, lists_of};
 use sat_cubes::{CubeGate, Cubed, solve_cubes};
 use std::sync::atomic::{AtomicBool, AtomicU64, Ordering};
 use std::test::Fail;
+use std::thread::available_parallelism;
 
 /// How often a cube looks for the other.
 const MOST_LOOKS: u64 = 100_000_000;
@@ -88,5 +89,24 @@ fn a_gate_is_told_of_each_cube(rt: HostRuntime) -> Result<(), Fail> {
     assert_eq!(rt; gate.begun.load(Ordering::SeqCst), 255);
     assert_eq!(rt; gate.ended.load(Ordering::SeqCst), 255);
     assert_eq!(rt; gate.calls.load(Ordering::SeqCst), 16);
+    Ok(())
+}
+
+#[test]
+fn no_wave_begins_behind_values(rt: HostRuntime) -> Result<(), Fail> {
+    let lists = lists_of(rt.alloc(), "1 2 3 4 5 6 7")?;
+    let formula = formula_of(rt.alloc(), 7, &lists)?;
+    let gate = Seen {
+        begun: AtomicU64::new(0),
+        ended: AtomicU64::new(0),
+        calls: AtomicU64::new(0),
+    };
+    let cubed = solve_cubes(&rt, rt.alloc(), &formula, 6, 10, &gate)?;
+    assert!(rt; matches!(&cubed, Cubed::Sat { cube: 0, .. }));
+    let width = match available_parallelism(&rt) {
+        Ok(count) => count.get().clamp(2, 64) as u64,
+        Err(_) => 2,
+    };
+    assert_eq!(rt; gate.calls.load(Ordering::SeqCst), 2 * width);
     Ok(())
 }

@@ -1,0 +1,76 @@
+-- What a log shows of an answer that came by cubes.
+use Rattle.std.specs.Prelude.{◌≡◌, ℕ, ℤ, ◌^◌, ◌<◌, Bool, List, [], length, map, None}
+use Rattle.cnf_core.specs.Clauses.{Satisfies}
+use Rattle.cnf_core.specs.Events.{LogState, givens}
+use Rattle.cnf_core.specs.Steps.{IsValidLog, NonEmptyStepsAreNew}
+use Rattle.ep_answer.specs.Problems.{base_clauses}
+use Rattle.ep_print.specs.Answers.{AnswerTree, no_solution, optimum, solution, unknown, unknown_with}
+use Rattle.ep_tree.specs.Binding.{Instance}
+use Rattle.ep_tree.specs.Solutions.{Assigned, found_of}
+use Rattle.ep_tree.specs.declared.values.Mode.{Mode}
+use Rattle.ep_unroll.specs.Cells.{found_numbers, instance_cells}
+use Rattle.sat_search.specs.Logs.{EndsWithEmptyStep, IsSound}
+use Rattle.sat_split.specs.Cubes.{AreCubeVariables, LiesIn, cube_literals, unit_of}
+use Rattle.sat_cubes.specs.Answers.{AreRefutedWithin, IsRefutedIn, NoneBelow}
+use Rattle.ep_solve.specs.Logged.{IsLogged, Stands, TellNumbers, TellSolutions, added_clauses}
+use Rattle.ep_solve.specs.Right.{IsSpent}
+
+-- Under an assignment in a cube that satisfies the clauses which stand for the instance, the notes tell these numbers of its cells.
+pub record AreToldInCube (i : Instance) (log : LogState) (vars : List ℕ) (cube : ℕ) (numbers : List ℤ) : Type 0 where
+  pub assignment : ℕ → Bool
+  pub satisfies : Satisfies assignment (base_clauses log)
+  pub lies_in : LiesIn (cube_literals cube vars) assignment
+  pub tell : TellNumbers assignment log.notes (instance_cells i) numbers
+
+-- A solution is told in a cube. Nothing in a lower cube satisfies what stands for the instance, each of these is refuted within the budget,
+-- and an event of the log refutes it. Nothing was added to what stands for the instance.
+pub record IsSolutionInCube (i : Instance) (vars : List ℕ) (budget : ℕ) (log : LogState) (a : Assigned) : Type 0 where
+  pub cube : ℕ
+  pub is_cube : cube < 2 ^ length vars
+  pub told : AreToldInCube i log vars cube (found_numbers (found_of a))
+  pub none_below : NoneBelow (base_clauses log) vars cube
+  pub refuted_within : AreRefutedWithin (base_clauses log) vars cube budget
+  pub refuted : (c : ℕ) → c < cube → IsRefutedIn log.events (cube_literals c vars)
+  pub added : added_clauses log ≡ []
+
+-- Each cube is refuted within the budget, and the log ends with the empty step. Nothing was added to what stands for the instance.
+pub record IsRefutedByCubes (vars : List ℕ) (budget : ℕ) (log : LogState) : Type 0 where
+  pub refuted_within : AreRefutedWithin (base_clauses log) vars (2 ^ length vars) budget
+  pub ends : EndsWithEmptyStep log.events
+  pub added : added_clauses log ≡ []
+
+-- The budget was spent in a cube: as many steps have a literal, each of these is new and effective, and no clause is empty. The cube's literals
+-- were added as clauses of their own, and what is left are exactly the solutions that are told in the cube. Nothing in a lower cube satisfies
+-- what stands for the instance, and each of these is refuted within the budget.
+pub record IsSpentInCube (mode : Mode) (i : Instance) (vars : List ℕ) (budget : ℕ) (log : LogState) : Type 0 where
+  pub cube : ℕ
+  pub is_cube : cube < 2 ^ length vars
+  pub sound : IsSound log.events
+  pub spent : IsSpent budget log.events
+  pub added : added_clauses log ≡ map unit_of (cube_literals cube vars)
+  pub left : TellSolutions mode i log.notes (givens log.events) (λ found. AreToldInCube i log vars cube (found_numbers found))
+  pub none_below : NoneBelow (base_clauses log) vars cube
+  pub refuted_within : AreRefutedWithin (base_clauses log) vars cube budget
+
+-- what the log shows of each answer
+unfoldable pub ShowsInCubes : Mode → Instance → List ℕ → ℕ → LogState → AnswerTree → Type 0
+ShowsInCubes mode i vars budget log (solution a) = IsSolutionInCube i vars budget log a
+ShowsInCubes mode i vars budget log (optimum value a) = ⊥
+ShowsInCubes mode i vars budget log no_solution = IsRefutedByCubes vars budget log
+ShowsInCubes mode i vars budget log (unknown conflicts) = IsSpentInCube mode i vars budget log
+ShowsInCubes mode i vars budget log (unknown_with conflicts value a) = ⊥
+
+-- An answer of an instance is logged over at most so many cube variables: the log stands for the instance, its steps are valid, those with a
+-- literal are new, and it shows the answer.
+pub record IsDivided (mode : Mode) (i : Instance) (most budget : ℕ) (log : LogState) (answer : AnswerTree) : Type 0 where
+  pub stands : Stands mode i log
+  pub valid : IsValidLog log.events
+  pub new : NonEmptyStepsAreNew log.events
+  pub vars : List ℕ
+  pub are : AreCubeVariables most (base_clauses log) vars
+  pub shows : ShowsInCubes mode i vars budget log answer
+
+-- An answer is logged by cubes where no objective is stated, and else as without them.
+pub record IsLoggedInCubes (mode : Mode) (i : Instance) (most budget : ℕ) (log : LogState) (answer : AnswerTree) : Type 0 where
+  pub divided : i.goal ≡ None → IsDivided mode i most budget log answer
+  pub undivided : (i.goal ≡ None → ⊥) → IsLogged mode i budget log answer
