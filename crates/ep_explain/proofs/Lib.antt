@@ -9,3 +9,4 @@ mod Solving
 mod Judged
 mod Single
 mod Ending
+mod Nearby

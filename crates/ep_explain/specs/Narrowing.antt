@@ -62,3 +62,10 @@ settled_clause one = (one.clause, unwrap_or (option_map assigned one.without) []
 unfoldable pub first_numbers : ℕ → List ℕ
 first_numbers zero = []
 first_numbers (suc n) = first_numbers n ++ suc n ∷ []
+
+-- An assignment fits, is written as the instance states it, and its values are of their types.
+pub record IsPlaced (i : Instance) (a : Assigned) : Type 0 where
+  pub found : Found
+  pub fits : Fits i a found
+  pub written : IsWritten i a
+  pub typed : AreTyped a

@@ -12,6 +12,7 @@ ghost use Rattle.ep_tree.specs.Solutions.{instance_limits};
 ghost use Rattle.ep_tree.specs.Views.{assigned};
 ghost use Rattle.sat_search.specs.Logs.{IsSound};
 
+use crate::around::settle_around;
 use crate::left::{
     Left, Narrowed, Seen, all_left, all_numbers, last_open, leave_out, numbers_but, parted, settle,
     violated_by, with_seen,
@@ -21,6 +22,7 @@ use ep_base::Memory;
 use ep_instance_parts::Instance;
 use ep_restrict::restrict;
 use ep_tree::Assignment;
+use ep_unroll::unroll;
 use std::alloc::Global;
 
 /// A clause that is named, and an assignment that makes all other named ones true.
@@ -107,7 +109,7 @@ fn try_without<T: Tries>(
 }
 
 /// Tries to leave out block after block: the next one is half as long where something of this one stays,
-/// and twice as long where nothing does.
+/// and twice as long where nothing does. What settles a clause is looked around for what settles others.
 fn leave_out_blocks<T: Tries>(
     alloc: Global,
     instance: &Instance,
@@ -129,6 +131,8 @@ fn leave_out_blocks<T: Tries>(
     let count = narrowed.left.len();
     let most = count / 4 + 1;
     let mut size = most;
+    let ground = unroll(alloc, instance)?;
+    let mut done = Vec::new(alloc);
     for _turn in 0..count {
         let block = last_open(alloc, &narrowed.left, size)?;
         if block.is_empty() {
@@ -136,10 +140,10 @@ fn leave_out_blocks<T: Tries>(
         }
         let before = narrowed.left.len();
         let (after, spent) = try_without(alloc, instance, narrowed, &block, tries)?;
-        narrowed = after;
         if spent.is_some() {
-            return Ok((narrowed, spent));
+            return Ok((after, spent));
         }
+        narrowed = settle_around(alloc, instance, &ground.cells, after, &mut done)?;
         size = next_size(narrowed.left.len() < before, block.len(), most);
     }
     Ok((narrowed, None))

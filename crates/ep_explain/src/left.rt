@@ -71,6 +71,17 @@ pub fn all_left(alloc: Global, numbers: &[u64]) -> Result<Vec<Left>, Memory>
     Ok(left)
 }
 
+/// The numbers of these clauses.
+pub fn numbers_of(alloc: Global, left: &[Left]) -> Result<Vec<u64>, Memory>
+    ensures { IfOk result (λ numbers. numbers.items ≡ left_numbers left.now) }
+{
+    let mut numbers = Vec::with_capacity(alloc, left.len())?;
+    for one in left {
+        numbers.push(one.clause)?;
+    }
+    Ok(numbers)
+}
+
 /// The numbers of these clauses but one.
 pub fn numbers_but(alloc: Global, left: &[Left], clause: u64) -> Result<Vec<u64>, Memory>
     ensures { IfOk result (λ numbers. numbers.items ≡ all_but clause (left_numbers left.now)) }
@@ -156,7 +167,7 @@ pub fn last_open(alloc: Global, left: &[Left], most: usize) -> Result<Vec<u64>, 
 }
 
 /// What an assignment is where the clauses of these numbers are all there are.
-fn judged(
+pub fn judged(
     alloc: Global,
     instance: &Instance,
     numbers: &[u64],

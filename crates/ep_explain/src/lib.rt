@@ -1,6 +1,7 @@
 //! Why an instance has no solution: clauses that have none together, of which none can be left out.
 #![tactic(auto)]
 
+mod around;
 mod explaining;
 mod left;
 mod searches;
