@@ -73,7 +73,10 @@ class Examples(Case):
         self.assertEqual(self.call("sh", "-c", f"{making}; {asking}")[:2], (0, texts[at + 1]))
         with open(f"{self.folder}/single.eprime", "a", encoding="utf-8") as it:
             it.write(texts[at + 2])
-        self.assertEqual(self.call("sh", "-c", asking)[:2], (0, "16:3: n = 3, d = 5\n"))
+        # One clause of the second kind has to go then; which one is the program's choice.
+        status, out, _ = self.call("sh", "-c", asking)
+        self.assertEqual(status, 0)
+        self.assertRegex(out, r"^16:3: n = \d, d = \d\n$")
 
 
 if __name__ == "__main__":

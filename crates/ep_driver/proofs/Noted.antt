@@ -37,11 +37,11 @@ none-readable (Ok x) log e = subst (λ (l : LogState). All IsReadableNote l.note
 none-readable (Err e) log f = tt
 
 -- what holds of a reply holds of it under a premise too
-pub with-premise : {X E P Q : Type 0} (r : Result X E) → IfOk r (λ x. P) → IfOk r (λ x. Q → P)
-with-premise (Ok x) h = λ q. h
-with-premise (Err e) h = tt
+pub with-premise : {X E : Type 0} (P Q : Type 0) (r : Result X E) → IfOk r (λ x. P) → IfOk r (λ x. Q → P)
+with-premise P Q (Ok x) h = λ q. h
+with-premise P Q (Err e) h = tt
 
 -- a premise that holds may go
-pub without-premise : {X E P Q : Type 0} (r : Result X E) → Q → IfOk r (λ x. Q → P) → IfOk r (λ x. P)
-without-premise (Ok x) q h = h q
-without-premise (Err e) q h = tt
+pub without-premise : {X E : Type 0} (P Q : Type 0) (r : Result X E) → Q → IfOk r (λ x. Q → P) → IfOk r (λ x. P)
+without-premise P Q (Ok x) q h = h q
+without-premise P Q (Err e) q h = tt

@@ -56,9 +56,9 @@ IsPromised held (Wanted.Search model params mode (Request.Many most conflicts) o
     × (text ≡ listing_text listing)
 IsPromised held (Wanted.Search model params mode (Request.Explained conflicts) outputs) status text =
     (i : Instance) × FilesMake held mode model params i × IsExplanation mode i conflicts status text
-IsPromised held (Wanted.Verify model params mode solution) status text =
+IsPromised held (Wanted.Verify model params mode solution_name) status text =
     (i : Instance) × FilesMake held mode model params i
-    × (solution_text : List ℕ) × (held solution ≡ Some solution_text)
+    × (solution_text : List ℕ) × (held solution_name ≡ Some solution_text)
     × (a : Assigned) × GivesAssignment mode i solution_text a
     × (value : Option ℤ) × IsSolutionOf mode i a value × (status ≡ Status.Answered)
     × (text ≡ judgement_text (a_solution value))

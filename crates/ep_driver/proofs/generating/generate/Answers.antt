@@ -79,4 +79,4 @@ unfolding conflicts_wanted
 returns-clause-ends c = c.search_texts.ensures.ends
 
 pub returns-clause-readable : goal.returns-clause-readable
-returns-clause-readable c = without-premise c.search_texts.result tt c.search_texts.ensures.readable
+returns-clause-readable c = without-premise _ _ c.search_texts.result tt c.search_texts.ensures.readable

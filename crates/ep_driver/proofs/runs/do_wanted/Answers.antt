@@ -181,10 +181,10 @@ returns-in-Generate-clause-generated g c =
     subst W (sym c.in-Generate.is) (shown-answers c.in-Generate.number c.in-Generate.conflicts c.generate.new.log c.generate.result c.generate.ensures.tells)
 
 pub returns-in_ok-model-in-Verify-clause-readable : goal.returns-in_ok-model-in-Verify-clause-readable
-returns-in_ok-model-in-Verify-clause-readable g c = with-premise c.verify_model.result (none-readable c.verify_model.result c.args.log.now c.requires.empty)
+returns-in_ok-model-in-Verify-clause-readable g c = with-premise _ _ c.verify_model.result (none-readable c.verify_model.result c.args.log.now c.requires.empty)
 
 pub returns-in_ok-formula-in-Check-clause-readable : goal.returns-in_ok-formula-in-Check-clause-readable
-returns-in_ok-formula-in-Check-clause-readable g c = with-premise c.check_proof.result (none-readable c.check_proof.result c.args.log.now c.requires.empty)
+returns-in_ok-formula-in-Check-clause-readable g c = with-premise _ _ c.check_proof.result (none-readable c.check_proof.result c.args.log.now c.requires.empty)
 
 pub returns-in_ok-model-in-Search-clause-readable : goal.returns-in_ok-model-in-Search-clause-readable
 returns-in_ok-model-in-Search-clause-readable g c =
@@ -192,7 +192,7 @@ returns-in_ok-model-in-Search-clause-readable g c =
     subst W (sym c.in-Search.is) c.search_model.ensures.readable
 
 pub returns-in-Opb-clause-readable : goal.returns-in-Opb-clause-readable
-returns-in-Opb-clause-readable g c = with-premise c.opb_file_reply.result c.opb_file_reply.ensures.readable
+returns-in-Opb-clause-readable g c = with-premise _ _ c.opb_file_reply.result c.opb_file_reply.ensures.readable
 
 pub returns-in-Generate-clause-readable : goal.returns-in-Generate-clause-readable
-returns-in-Generate-clause-readable g c = with-premise c.generate.result c.generate.ensures.readable
+returns-in-Generate-clause-readable g c = with-premise _ _ c.generate.result c.generate.ensures.readable

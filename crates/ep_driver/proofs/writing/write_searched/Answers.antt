@@ -10,11 +10,11 @@ use Rattle.ep_driver.proofs.writing.write_searched.Goals as goal
 pub write_outputs-requires : goal.write_outputs-requires
 write_outputs-requires g c = record { readable = c.requires.readable (subst LogsInstance (sym c.in-One.is) tt) }
 
-pub write_outputs-in-Many-requires : goal.write_outputs-in-Many-requires
-write_outputs-in-Many-requires g c = record { readable = c.requires.readable (subst LogsInstance (sym c.in-Many.is) tt) }
+pub write_outputs-requires-in-Many : goal.write_outputs-requires-in-Many
+write_outputs-requires-in-Many g c = record { readable = c.requires.readable (subst LogsInstance (sym c.in-Many.is) tt) }
 
-pub write_outputs-in-Generated-requires : goal.write_outputs-in-Generated-requires
-write_outputs-in-Generated-requires g c = record { readable = c.requires.readable (subst LogsInstance (sym c.in-Generated.is) tt) }
+pub write_outputs-requires-in-Generated : goal.write_outputs-requires-in-Generated
+write_outputs-requires-in-Generated g c = record { readable = c.requires.readable (subst LogsInstance (sym c.in-Generated.is) tt) }
 
 pub returns-in-Explained-clause-tells : goal.returns-in-Explained-clause-tells
 unfolding outputs_in_order named
