@@ -71,9 +71,14 @@ class Answer:
                 self.blocks[-1][found[1]] = value_of(found[2])
 
     @property
+    def heads(self):
+        """The notes that stand above values of their own: those of a list, or of an explanation."""
+        return [it for it in self.notes if re.fullmatch(r"(solution|without) [0-9]+", it)]
+
+    @property
     def is_list(self):
         """Whether it lists solutions, rather than telling one."""
-        return any(re.fullmatch(r"solution [0-9]+", it) for it in self.notes) or "complete" in self.notes
+        return bool(self.heads) or "complete" in self.notes
 
     def summary(self):
         """What the notes say, as names and values."""
@@ -90,4 +95,8 @@ class Answer:
                 found["status"] = it
             elif word == "solution":
                 found.setdefault("status", "solutions" if rest else "solution")
+            elif word == "explanation":
+                found.update(status="explanation", clauses=[])
+            elif word == "without":
+                found["clauses"].append(int(rest))
         return found

@@ -1,5 +1,5 @@
 """The words of a command line: which option has which value, and which words are the launcher's own."""
-import difflib
+import difflib, shlex
 
 # The options of the program, with the tasks that take them, and those that each task needs.
 TASKS = {
@@ -27,6 +27,8 @@ class Command:
     """The words for the program, read as options; `own` has those of the launcher."""
 
     def __init__(self, words):
+        # The words as they were typed, whatever becomes of files for the time of a run.
+        self.typed = list(words)
         self.own, self.faults = {"data": []}, []
         # Where the values of tables come from, by their names.
         self.tables = {}
@@ -119,6 +121,12 @@ class Command:
                 at, is_joined = self.places[name]
                 gone |= {at} if is_joined else {at - 1, at}
         return [it for at, it in enumerate(self.words) if at not in gone]
+
+    def explaining(self):
+        """The command that explains why there is no solution."""
+        typed = Command(self.typed)
+        words = typed.without("task", "solutions", "out-solution", "out-cnf", "out-log")
+        return shlex.join(["./epsat", "--task", "explain", *words, *(it for path in typed.own["data"] for it in ("--data", path))])
 
     def usage(self):
         """What is wrong with words that are no command, or None where that isn't seen."""

@@ -9,7 +9,9 @@ ROOT = os.path.dirname(os.path.dirname(os.path.dirname(os.path.realpath(__file__
 LARGE = 500_000
 # How many columns of a line are shown.
 WIDTH = 110
-PAGE = 'docs/INFEASIBLE.md finds the rules that can\'t be kept together; see "When an answer surprises" at the end of docs/TUTORIAL.md, too'
+# How many clauses of an explanation are shown.
+NAMED = 20
+PAGE = 'docs/INFEASIBLE.md goes on from there; see "When an answer surprises" at the end of docs/TUTORIAL.md, too'
 
 
 def explain(text, status, command, say):
@@ -27,6 +29,9 @@ def explain(text, status, command, say):
             say(it)
     elif status == 0 and command.task in ("solve", "enumerate"):
         for it in looked(of_answer, text, command):
+            say(it)
+    elif status == 0 and command.task == "explain":
+        for it in looked(of_explanation, text, command):
             say(it)
 
 
@@ -397,4 +402,23 @@ def of_answer(text, command):
             f"epsat: {where} `{grammar.spelled(model, node)}` is {index}{f' where {values}' if values else ''}, outside of {grammar.shortly(indices)}: "
             + ("this read is false" if is_bool else "it has no value, and what compares it is false")
         )
-    return [*made, f"epsat: there is no solution, which is proved. Where that surprises: {PAGE}"]
+    return [*made, f"epsat: there is no solution, which is proved. Which clauses can't be kept together: {command.explaining()}", f"epsat: where that surprises: {PAGE}"]
+
+
+def of_explanation(text, command):
+    """Where the clauses stand that an explanation names, and what to do where one of them says too much."""
+    model, params = texts(command)
+    numbers = [int(it) for it in re.findall(rb"^\$ without ([0-9]+)$", text, re.M)]
+    if not model or not re.search(rb"^\$ explanation ", text, re.M):
+        return []
+    if not numbers:
+        return ["epsat: no values fit the domains: some `find` has none"]
+    found, made = clauses(model, ("such",)), []
+    for it in [it for it in numbers if it <= len(found)][:NAMED]:
+        said = grammar.spelled(model, found[it - 1])
+        made.append(f"epsat: clause {it}, line {found[it - 1].first.line}: {said if len(said) <= WIDTH else said[: WIDTH - 3] + ' ..'}")
+    if len(numbers) > NAMED:
+        made.append(f"epsat: and {len(numbers) - NAMED} more")
+    if any(found[it - 1].kind == "quantifier" for it in numbers if it <= len(found)):
+        made.append("epsat: `tools/singles` takes a clause with `forAll` apart, and then this says for which values (docs/INFEASIBLE.md)")
+    return made

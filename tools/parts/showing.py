@@ -122,17 +122,18 @@ def upright(block, axes):
 
 def blocks_of(answer):
     """The solutions of an answer, each with what is said above it."""
-    heads = [it for it in answer.notes if it.startswith("solution ")] if answer.is_list else []
+    heads = answer.heads
     for number, block in enumerate(answer.blocks):
         yield heads[number] if number < len(heads) else "", block
 
 
 def grid(answer, axes, _path):
     """Tables for a terminal."""
-    lines = [it for it in answer.notes if not (answer.is_list and it.startswith("solution "))]
+    heads = set(answer.heads)
+    lines = [it for it in answer.notes if it not in heads]
     lines = [f"{it}: the best that was found, and there may be better ones" if it.startswith("incumbent ") else it for it in lines]
     for head, block in blocks_of(answer):
-        lines += ["", head] if head else []
+        lines += ["", head.replace("without", "without clause")] if head else []
         long = upright(block, axes)
         for names, axis, indices in long:
             cells = {name: cells_of(block[name]) for name in names}
@@ -200,7 +201,7 @@ def tree(answer, _axes, _path):
     made = answer.summary()
     blocks = [{name: it.plain() if isinstance(it, Matrix) else it for name, it in block.items()} for block in answer.blocks]
     if answer.is_list or made.get("status") == "solutions":
-        made["solutions"] = blocks
+        made["without" if made.get("status") == "explanation" else "solutions"] = blocks
     elif blocks:
         made["values"] = blocks[0]
     if answer.blocks:
@@ -241,10 +242,10 @@ GROUNDS = ["#dbeafe", "#fde8c8", "#dcfce7", "#fbdce4", "#e9e0fb", "#d6f3f1", "#f
 
 def said(answer):
     """The notes in words."""
-    words = []
+    words, heads = [], set(answer.heads)
     for it in answer.notes:
         first, _, rest = it.partition(" ")
-        if answer.is_list and first == "solution":
+        if it in heads:
             continue
         if first == "optimum":
             words.append(f"<b>Objective {rest}</b>: no solution is better")
@@ -254,6 +255,12 @@ def said(answer):
             words.append(f"Not finished: the budget of {int(rest.split()[0]):,} conflicts was spent")
         elif it == "no solution":
             words.append("<b>There is no solution</b>")
+        elif it == "explanation 0":
+            words.append("<b>No values fit the domains</b>")
+        elif it == "explanation 1":
+            words.append("<b>One clause</b> has no solution by itself")
+        elif first == "explanation":
+            words.append(f"<b>{rest} clauses</b> have no solution together. What stands below keeps all of them but one")
         elif it == "complete":
             words.append(f"<b>{len(answer.blocks)}</b> solutions; there are no others")
         elif it == "solution":
@@ -271,7 +278,7 @@ def page(answer, axes, path):
     out += [f"<style>{STYLE}</style>", f"<h1>{title}</h1>", f'<p class="note">{said(answer)}.</p>']
     for head, block in blocks_of(answer):
         if head:
-            out.append(f"<h1>{html.escape(head.capitalize())}</h1>")
+            out.append(f"<h1>{html.escape(head.replace('without', 'without clause').capitalize())}</h1>")
         single = {it: value for it, value in block.items() if not isinstance(value, Matrix)}
         if single:
             out.append("<dl>" + "".join(f"<dt>{html.escape(it)}</dt><dd>{html.escape(answer.names.cell(it, value, str(scalar(value))))}</dd>" for it, value in single.items()) + "</dl>")

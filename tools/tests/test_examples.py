@@ -36,6 +36,8 @@ class Examples(Case):
                     params += f"{added}\n"
                 elif lines[0] != "language ESSENCE' 1.0":
                     continue
+                elif lines[1].startswith("$ explanation "):
+                    continue
                 elif lines[1].startswith("$ "):
                     words = ["--in-eprime", self.file("m.eprime", model)]
                     if re.search(r"(?m)^given", model):
@@ -57,7 +59,7 @@ class Examples(Case):
                     if line.startswith("./epsat --") and "MODEL" not in line and not line.startswith("./epsat --prove"):
                         words = [f"{ROOT}/{it}" if it.startswith("examples/") else it for it in line.split()[1:] if not it.startswith("--show")]
                         words = [it for it in words if it not in ("grid",)]
-                        if any(it.startswith(("roster.", "all.", "next.", "single.")) for it in words):
+                        if any(it.startswith(("roster.", "all.", "next.", "single.", "plan.")) for it in words):
                             continue
                         status, out, _ = self.call(f"{ROOT}/epsat" if "--data" in words else program(), *words)
                         self.assertEqual(status, 0, f"{page}: {line}: {out[:200]}")
@@ -68,9 +70,11 @@ class Examples(Case):
         texts = re.findall(r"(?ms)^```\n(.*?)^```", read(f"{ROOT}/docs/INFEASIBLE.md"))
         self.file("plan.eprime", texts[0].replace("forAll d : Day . shift[n, d] = 2", "forAll d : int(1..days - 1) . shift[n, d] = 2"))
         self.file("week.param", texts[1])
-        at = next(at for at, it in enumerate(texts) if it.startswith("tools/singles"))
-        making, asking = (it.replace("./epsat", program()).replace("tools/singles", f"{ROOT}/tools/singles") for it in texts[at].splitlines())
-        self.assertEqual(self.call("sh", "-c", f"{making}; {asking}")[:2], (0, texts[at + 1]))
+        at = next(at for at, it in enumerate(texts) if it.startswith("./epsat --task explain"))
+        self.assertEqual(self.call(program(), *texts[at].split()[1:])[:2], (0, texts[at + 1]))
+        for at in [at for at, it in enumerate(texts) if it.startswith("tools/singles")]:
+            making, asking = (it.replace("./epsat", program()).replace("tools/singles", f"{ROOT}/tools/singles") for it in texts[at].splitlines())
+            self.assertEqual(self.call("sh", "-c", f"{making}; {asking}")[:2], (0, texts[at + 1]))
         with open(f"{self.folder}/single.eprime", "a", encoding="utf-8") as it:
             it.write(texts[at + 2])
         # One clause of the second kind has to go then; which one is the program's choice.

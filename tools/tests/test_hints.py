@@ -276,9 +276,27 @@ class Hints(Case):
         self.assertIn("When an answer surprises", said[-1])
         for guarded in ("forAll i : int(1..n) . (i < n) -> (M[i] > M[i + 1])", "and([M[i] > M[i + 1] | i : int(1..n), i < n])", "forAll i : int(1..n - 1) . M[i] > M[i + 1]"):
             said = self.said(HEAD + f"such that {guarded}, x > 9\n")[1]
-            self.assertEqual(len(said), 1, guarded)
+            self.assertEqual(len(said), 2, guarded)
         self.assertEqual(self.said(HEAD + "such that x > 1\n")[1], [])
         self.assertIn("no `find`", self.said("language ESSENCE' 1.0\nletting q be 3\n")[1][0])
+
+    def test_the_command_that_explains_stands_below_no_solution(self):
+        said = self.said(HEAD + "such that x > 1, x + y > 11, forAll i : int(1..n) . M[i] + x > 3\n", "letting q be 2\n", "--out-cnf", f"{self.folder}/f")[1]
+        asked = f"./epsat --task explain --in-eprime {self.folder}/m --in-param {self.folder}/p"
+        self.assertEqual(said[0], f"there is no solution, which is proved. Which clauses can't be kept together: {asked}")
+        typed = command.Command(["--task=enumerate", "--solutions", "3", "--in-eprime", "a b", "--data", "t.csv", "--show", "grid", "--conflicts=7"])
+        self.assertEqual(typed.explaining(), "./epsat --task explain --in-eprime 'a b' --conflicts=7 --data t.csv")
+
+    def test_clauses_of_an_explanation_have_their_lines(self):
+        head, asked = HEAD, ("letting q be 2\n", "--task", "explain")
+        said = self.said(head + "such that x > 1,\n  y > 4 /\\ z > 1,\n  forAll i : int(1..n) . M[i] > y\n", *asked)[1]
+        self.assertEqual(said[:2], ["clause 2, line 8: y > 4 /\\ z > 1", "clause 3, line 9: forAll i : int(1..n) . M[i] > y"])
+        self.assertIn("`tools/singles` takes a clause with `forAll` apart", said[2])
+        self.assertEqual(self.said(head + "such that x > 9\n", *asked)[1], ["clause 1, line 7: x > 9"])
+        self.assertEqual(self.said(head + "find w : int(2..1)\nsuch that x > 9\n", *asked)[1], ["no values fit the domains: some `find` has none"])
+        self.assertEqual(self.said(head + "such that x > 2\n", *asked)[1], [])
+        many = ", ".join(f"x != {it}" for it in range(1, 6)) + "".join(f", y + z > {it}" for it in range(9))
+        self.assertEqual(len(self.said(head + f"such that {many}\n", *asked)[1]), 5)
 
     def measured_by(self, program):
         kept, measuring.program = measuring.program, lambda: program

@@ -46,7 +46,7 @@ class Pages(Case):
         stays = read(f"{ROOT}/docs/FORMATS.md").partition("## What stays\n")[2].partition("\n## ")[0]
         said = next(it for it in stays.split("\n") if it.startswith("- **JSON**"))
         made = {}
-        for text in ("$ optimum 1\nletting x be [1; int(1..1)]", "$ unknown 3 conflicts\n$ incumbent 1\nletting x be 1", "$ solution 1\nletting x be 1\n$ complete"):
+        for text in ("$ optimum 1\nletting x be [1; int(1..1)]", "$ unknown 3 conflicts\n$ incumbent 1\nletting x be 1", "$ solution 1\nletting x be 1\n$ complete", "$ explanation 1\n$ without 1\nletting x be 1"):
             made.update(json.loads(showing.shown(f"language ESSENCE' 1.0\n{text}\n".encode(), "json")))
         self.assertEqual(set(re.findall("`([a-z]+)`", said)), set(made))
 

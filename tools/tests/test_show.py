@@ -113,6 +113,17 @@ class Show(Case):
         self.assertNotIn("http", text)
         self.assertNotIn("<b>A solution</b>", self.shown(LIST, "html"))
 
+    def test_an_explanation_is_shown(self):
+        text = "language ESSENCE' 1.0\n$ explanation 2\n$ without 1\nletting x be 2\n$ without 3\nletting x be 1\n"
+        self.assertEqual(self.shown(text, "grid"), "explanation 2\n\nwithout clause 1\nx = 2\n\nwithout clause 3\nx = 1\n")
+        self.assertEqual(self.shown(text, "csv"), "without,1\nx,2\n\nwithout,3\nx,1\n")
+        self.assertEqual(json.loads(self.shown(text, "json")), {"status": "explanation", "clauses": [1, 3], "without": [{"x": 2}, {"x": 1}], "indices": {}})
+        self.assertIn("<b>2 clauses</b> have no solution together", self.shown(text, "html"))
+        self.assertIn("<h1>Without clause 3</h1>", self.shown(text, "html"))
+        none = "language ESSENCE' 1.0\n$ explanation 0\n"
+        self.assertEqual(self.shown(none, "grid"), "explanation 0\n")
+        self.assertEqual(json.loads(self.shown(none, "json")), {"status": "explanation", "clauses": []})
+
     def test_a_refusal_passes(self):
         for form in command.FORMS:
             self.assertEqual(self.shown("fault F3 model 1:1 x\n", form), "fault F3 model 1:1 x\n")

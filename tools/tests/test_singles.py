@@ -74,6 +74,21 @@ class Singles(Case):
         self.assertEqual((status, said), (0, "4:3\n5:3: i = 3\n"))
         self.assertEqual(read(f"{self.folder}/t"), "1\t1\t4:3\t\n2\t2\t5:3\ti = 1\n3\t2\t5:3\ti = 2\n4\t2\t5:3\ti = 3\n")
 
+    def test_clauses_that_an_explanation_names_are_told(self):
+        self.file("m", "language ESSENCE' 1.0\nfind x : matrix indexed by [int(1..3)] of int(1..2)\nsuch that\n  forAll i : int(1..3) . x[i] > i - 2,\n  x[1] + x[2] > 1\n")
+        self.file("s", self.made("m", "--table", "t"))
+        answer = self.call(program(), "--task", "explain", "--in-eprime", "s")[1]
+        self.assertEqual(answer.splitlines()[1], "$ solution")
+        self.assertEqual(self.call(SINGLES, "--told", "t", given=answer.encode())[0], 5)
+        self.file("m", "language ESSENCE' 1.0\nfind x : matrix indexed by [int(1..3)] of int(1..2)\nsuch that\n  forAll i : int(1..3) . x[i] > i - 1,\n  x[1] + x[2] > 1\n")
+        self.file("s", self.made("m", "--table", "t"))
+        answer = self.call(program(), "--task", "explain", "--in-eprime", "s")[1]
+        self.assertEqual(self.call(SINGLES, "--told", "t", given=answer.encode()), (0, "4:3: i = 3\n", ""))
+        told = lambda text: self.call(SINGLES, "--told", "t", given=b"language ESSENCE' 1.0\n" + text)
+        self.assertEqual(told(b"$ explanation 2\n$ without 1\nletting x be 1\n$ without 4\nletting x be 2\n"), (0, "4:3: i = 1\n5:3\n", ""))
+        self.assertEqual(told(b"$ explanation 0\n"), (0, "", "singles: no clause is named\n"))
+        self.assertEqual(told(b"$ explanation 1\n$ without 9\n"), (5, "", "singles: t has no line for clause 9: it is another model's\n"))
+
     def test_what_cannot_be_done_is_said(self):
         self.assertEqual(self.call(SINGLES)[0], 2)
         self.assertEqual(self.call(SINGLES, "none")[0], 5)
