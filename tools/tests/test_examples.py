@@ -2,6 +2,7 @@
 import re, unittest
 
 from base import ROOT, Case, program, read
+from explanations import judge, judge_clauses
 
 PAGES = ("README.md", "docs/TUTORIAL.md", "docs/INFEASIBLE.md", "docs/RECIPES.md", "examples/README.md")
 
@@ -70,17 +71,33 @@ class Examples(Case):
         texts = re.findall(r"(?ms)^```\n(.*?)^```", read(f"{ROOT}/docs/INFEASIBLE.md"))
         self.file("plan.eprime", texts[0].replace("forAll d : Day . shift[n, d] = 2", "forAll d : int(1..days - 1) . shift[n, d] = 2"))
         self.file("week.param", texts[1])
-        at = next(at for at, it in enumerate(texts) if it.startswith("./epsat --task explain"))
-        self.assertEqual(self.call(program(), *texts[at].split()[1:])[:2], (0, texts[at + 1]))
-        for at in [at for at, it in enumerate(texts) if it.startswith("tools/singles")]:
-            making, asking = (it.replace("./epsat", program()).replace("tools/singles", f"{ROOT}/tools/singles") for it in texts[at].splitlines())
-            self.assertEqual(self.call("sh", "-c", f"{making}; {asking}")[:2], (0, texts[at + 1]))
+        at = next(at for at, it in enumerate(texts) if "--switches" in it)
+        making, asking = (it.replace("./epsat", program()).replace("tools/singles", f"{ROOT}/tools/singles") for it in texts[at].splitlines())
+        self.assertEqual(self.call("sh", "-c", f"{making}; {asking}")[:2], (0, texts[at + 1]))
         with open(f"{self.folder}/single.eprime", "a", encoding="utf-8") as it:
             it.write(texts[at + 2])
         # One clause of the second kind has to go then; which one is the program's choice.
         status, out, _ = self.call("sh", "-c", asking)
         self.assertEqual(status, 0)
         self.assertRegex(out, r"^16:3: n = \d, d = \d\n$")
+
+    def test_what_the_page_explains(self):
+        """What the page shows, and what is said now, are judged: which clauses are named is the program's choice."""
+        texts = re.findall(r"(?ms)^```\n(.*?)^```", read(f"{ROOT}/docs/INFEASIBLE.md"))
+        plan = texts[0].replace("forAll d : Day . shift[n, d] = 2", "forAll d : int(1..days - 1) . shift[n, d] = 2")
+        self.file("plan.eprime", plan)
+        params = self.file("week.param", texts[1])
+        at = next(at for at, it in enumerate(texts) if it.startswith("./epsat --task explain"))
+        for answer in (self.call(program(), *texts[at].split()[1:])[1], texts[at + 1]):
+            judge(self, plan, params, answer)
+        at = next(at for at, it in enumerate(texts) if it.startswith("tools/singles") and "--switches" not in it)
+        making, asking = (it.replace("./epsat", program()).replace("tools/singles", f"{ROOT}/tools/singles") for it in texts[at].splitlines())
+        status, out, _ = self.call("sh", "-c", f"{making}; {asking}")
+        self.assertEqual(status, 0)
+        rows = [it.split("\t") for it in read(f"{self.folder}/table").splitlines()]
+        told = [f"{row[2]}: {row[3]}" for row in rows]
+        for lines in (out, texts[at + 1]):
+            judge_clauses(self, read(f"{self.folder}/single.eprime"), params, [told.index(it) + 1 for it in lines.splitlines()])
 
 
 if __name__ == "__main__":
