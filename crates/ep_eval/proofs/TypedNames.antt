@@ -30,7 +30,7 @@ use Rattle.ep_eval.proofs.JudgingForms.{first_all, given_by, typed_more}
 use Rattle.ep_eval.specs.Bounds.{only_domain}
 use Rattle.ep_eval.specs.Judging.{all_pass, domain_type_at, list_of, name_scalar, passes, quantified_part, type_of_quantifier, type_at, type_if}
 use Rattle.ep_eval.specs.Literals.{index_at}
-use Rattle.ep_eval.specs.Typing.{AreTyped, inside_names, readings, typed_meaning, with_typed}
+use Rattle.ep_eval.specs.Typing.{AreNamesTyped, inside_names, readings, typed_meaning, with_typed}
 use Rattle.ep_eval.specs.declared.rules.Wanted.{Wanted}
 use Rattle.ep_eval.specs.declared.within.TypedName.{TypedName}
 
@@ -176,30 +176,30 @@ left_passes (Some x) None h = absurd cc
 left_passes (Some true) (Some y) h = refl
 left_passes (Some false) (Some y) h = h
 
-typed_passes : (marked : List TypedName) (outer inner : Context) (passed : Option Bool) → AreTyped (Some marked) outer passed inner → passed ≡ Some true
-unfolding AreTyped
+typed_passes : (marked : List TypedName) (outer inner : Context) (passed : Option Bool) → AreNamesTyped (Some marked) outer passed inner → passed ≡ Some true
+unfolding AreNamesTyped
 typed_passes marked outer inner passed h = h.0
 
-typed_inside : (marked : List TypedName) (outer inner : Context) (passed : Option Bool) → AreTyped (Some marked) outer passed inner → inner ≡ with_typed marked outer
-unfolding AreTyped
+typed_inside : (marked : List TypedName) (outer inner : Context) (passed : Option Bool) → AreNamesTyped (Some marked) outer passed inner → inner ≡ with_typed marked outer
+unfolding AreNamesTyped
 typed_inside marked outer inner passed h = h.1
 
-none_passes : (outer inner : Context) (passed : Option Bool) → AreTyped None outer passed inner → passed ≢ Some true
-unfolding AreTyped
+none_passes : (outer inner : Context) (passed : Option Bool) → AreNamesTyped None outer passed inner → passed ≢ Some true
+unfolding AreNamesTyped
 none_passes outer inner passed h = h
 
 -- what is read is what the names of a generator say
 abbrev pub Read : Option (List TypedName) → Context → Context → Generator → Type 0
-Read marked outer c g = AreTyped marked outer (all_pass Wanted.Integer (readings c g.names.items (domain_tree g.domain))) (inside_names c g.names.items (domain_tree g.domain))
+Read marked outer c g = AreNamesTyped marked outer (all_pass Wanted.Integer (readings c g.names.items (domain_tree g.domain))) (inside_names c g.names.items (domain_tree g.domain))
 
 pub read_as : (o other : Option (Vec TypedName Global)) (outer : Context) (lent marked : List TypedName) (ns : List Name) (g : Generator) → lent ≡ marked → ns ≡ g.names.items → o ≡ other
-    → AreTyped (option_map (λ v. v.items) o) outer (all_pass Wanted.Integer (readings (with_typed lent outer) ns (domain_tree g.domain))) (inside_names (with_typed lent outer) ns (domain_tree g.domain))
+    → AreNamesTyped (option_map (λ v. v.items) o) outer (all_pass Wanted.Integer (readings (with_typed lent outer) ns (domain_tree g.domain))) (inside_names (with_typed lent outer) ns (domain_tree g.domain))
     → Read (option_map (λ v. v.items) other) outer (with_typed marked outer) g
 read_as o other outer lent marked ns g same_typed same_names is told =
     let d = domain_tree g.domain in
     subst (λ x. Read (option_map (λ v. v.items) x) outer (with_typed marked outer) g) is
-    (subst (λ l. AreTyped (option_map (λ v. v.items) o) outer (all_pass Wanted.Integer (readings (with_typed marked outer) l d)) (inside_names (with_typed marked outer) l d)) same_names
-    (subst (λ l. AreTyped (option_map (λ v. v.items) o) outer (all_pass Wanted.Integer (readings (with_typed l outer) ns d)) (inside_names (with_typed l outer) ns d)) same_typed told))
+    (subst (λ l. AreNamesTyped (option_map (λ v. v.items) o) outer (all_pass Wanted.Integer (readings (with_typed marked outer) l d)) (inside_names (with_typed marked outer) l d)) same_names
+    (subst (λ l. AreNamesTyped (option_map (λ v. v.items) o) outer (all_pass Wanted.Integer (readings (with_typed l outer) ns d)) (inside_names (with_typed l outer) ns d)) same_typed told))
 
 pub generators_pass : (whole : Option Bool) (outer c : Context) (left : List Generator) (g : Generator) (rest : List Generator) (marked : List TypedName)
     → whole ≡ all_pass Wanted.Integer (judge_generators c (generators_of left)) → left ≡ g ∷ rest → Read (Some marked) outer c g
@@ -382,7 +382,7 @@ at-comprehension-none c p e gens conditions d scalar =
 pub quantifier_told : (c outer : Context) (p : Place) (kind : Kind) (op : QuantOp) (names : Vec Name Global) (domain : Box Domain Global) (body : Box Expr Global)
     (marked lent : List TypedName) (ns : List Name) (d : Domain) (e : Expr) (part : Wanted) (ty : ValueType) (holds : Option Bool) (t : Option ValueType)
     → kind ≡ Quant op names domain body → ns ≡ names.items → d ≡ domain.value → e ≡ body.value
-    → AreTyped (Some marked) outer (all_pass Wanted.Integer (readings c ns (domain_tree d))) (inside_names c ns (domain_tree d))
+    → AreNamesTyped (Some marked) outer (all_pass Wanted.Integer (readings c ns (domain_tree d))) (inside_names c ns (domain_tree d))
     → part ≡ quantified_part op → ty ≡ type_of_quantifier op → lent ≡ marked → holds ≡ option_map (passes part) (type_at (with_typed lent outer) (expr_tree e)) → t ≡ type_if ty holds
     → t ≡ type_at c (kind_tree p kind)
 quantifier_told c outer p kind op names domain body marked lent ns d e part ty holds t is same_names same_domain same_body told wanted type same_typed has given =
@@ -398,7 +398,7 @@ quantifier_told c outer p kind op names domain body marked lent ns d e part ty h
 pub quantifier_none : (c outer : Context) (p : Place) (kind : Kind) (op : QuantOp) (names : Vec Name Global) (domain : Box Domain Global) (body : Box Expr Global)
     (ns : List Name) (d : Domain)
     → kind ≡ Quant op names domain body → ns ≡ names.items → d ≡ domain.value
-    → AreTyped None outer (all_pass Wanted.Integer (readings c ns (domain_tree d))) (inside_names c ns (domain_tree d))
+    → AreNamesTyped None outer (all_pass Wanted.Integer (readings c ns (domain_tree d))) (inside_names c ns (domain_tree d))
     → None ≡ type_at c (kind_tree p kind)
 quantifier_none c outer p kind op names domain body ns d is same_names same_domain told =
     at-quantified-none c p op ns (domain_tree d) (expr_tree body.value) (none_passes outer (inside_names c ns (domain_tree d)) _ told)
@@ -416,7 +416,7 @@ comprehension_is c p kind body gens conditions domain is =
 pub comprehension_told : (c outer : Context) (p : Place) (kind : Kind) (body : Box Expr Global) (gens : Vec Generator Global) (conditions : Vec Expr Global) (domain : Option (Box Domain Global))
     (marked lent : List TypedName) (gs : List Generator) (cs : List Expr) (e : Expr) (index truths holds : Option Bool) (ty : Option ValueType) (ts : Option (List ValueType)) (t : Option ValueType)
     → kind ≡ Comprehension body gens conditions domain → gs ≡ gens.items → cs ≡ conditions.items → e ≡ body.value
-    → AreTyped (Some marked) outer (all_pass Wanted.Integer (judge_generators c (generators_of gs))) (inside_all (generators_of gs) c)
+    → AreNamesTyped (Some marked) outer (all_pass Wanted.Integer (judge_generators c (generators_of gs))) (inside_all (generators_of gs) c)
     → index ≡ all_pass Wanted.Integer (judge_index c (index_at domain)) → lent ≡ marked → truths ≡ all_pass Wanted.Boolean (judge_all (with_typed lent outer) (expr_trees cs))
     → ty ≡ type_at (with_typed lent outer) (expr_tree e) → ts ≡ map_both (λ all one. all ++ one ∷ []) (Some []) ty → holds ≡ map_both (λ a b. a && b) index truths
     → t ≡ list_of ts holds → t ≡ type_at c (kind_tree p kind)
@@ -432,7 +432,7 @@ comprehension_told c outer p kind body gens conditions domain marked lent gs cs 
 
 pub comprehension_none : (c outer : Context) (p : Place) (kind : Kind) (body : Box Expr Global) (gens : Vec Generator Global) (conditions : Vec Expr Global) (domain : Option (Box Domain Global))
     (gs : List Generator) → kind ≡ Comprehension body gens conditions domain → gs ≡ gens.items
-    → AreTyped None outer (all_pass Wanted.Integer (judge_generators c (generators_of gs))) (inside_all (generators_of gs) c)
+    → AreNamesTyped None outer (all_pass Wanted.Integer (judge_generators c (generators_of gs))) (inside_all (generators_of gs) c)
     → None ≡ type_at c (kind_tree p kind)
 comprehension_none c outer p kind body gens conditions domain gs is same_gens told =
     at-comprehension-none c p (expr_tree body.value) (generators_of gs) (expr_trees conditions.items) (index_at domain) (none_passes outer (inside_all (generators_of gs) c) _ told)

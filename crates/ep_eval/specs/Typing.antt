@@ -38,6 +38,6 @@ inside_names c names d = inside names (λ k. judge_domain k d) c
 
 -- The names of quantifiers or generators are typed so that the inner context is the outer one with them, where all
 -- readings of their domains are scalar; and else there are none.
-unfoldable pub AreTyped : Option (List TypedName) → Context → Option Bool → Context → Type 0
-AreTyped None outer scalar inner = scalar ≢ Some true
-AreTyped (Some typed) outer scalar inner = (scalar ≡ Some true) × (inner ≡ with_typed typed outer)
+unfoldable pub AreNamesTyped : Option (List TypedName) → Context → Option Bool → Context → Type 0
+AreNamesTyped None outer scalar inner = scalar ≢ Some true
+AreNamesTyped (Some typed) outer scalar inner = (scalar ≡ Some true) × (inner ≡ with_typed typed outer)

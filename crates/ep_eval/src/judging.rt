@@ -8,7 +8,7 @@ ghost use Rattle.ep_eval.specs.Judging.{all_pass, domain_type_at, passes, type_a
 ghost use Rattle.ep_eval.specs.Literals.{index_at};
 ghost use Rattle.ep_eval.specs.Ranges.{alone};
 ghost use Rattle.ep_eval.specs.Scopes.{env_in};
-ghost use Rattle.ep_eval.specs.Typing.{AreTyped, context_in, inside_names, readings};
+ghost use Rattle.ep_eval.specs.Typing.{AreNamesTyped, context_in, inside_names, readings};
 ghost use Rattle.ep_eval.specs.declared.rules.Wanted.{Wanted};
 
 use super::rules::{
@@ -399,7 +399,7 @@ fn names_typed(
     names: &[Name],
     domain: &Domain,
 ) -> Result<Option<Vec<TypedName>>, Memory>
-    ensures { IfOk result (λ typed. AreTyped (option_map (λ v. v.items) typed)
+    ensures { IfOk result (λ typed. AreNamesTyped (option_map (λ v. v.items) typed)
         (context_of (env_in within.entry.scope))
         (all_pass Wanted.Integer (readings (context_in within.entry) names.now (domain_tree domain.now)))
         (inside_names (context_in within.entry) names.now (domain_tree domain.now))) }
@@ -425,7 +425,7 @@ fn generators_typed(
     within: Within<'_, '_>,
     generators: &[Generator],
 ) -> Result<Option<Vec<TypedName>>, Memory>
-    ensures { IfOk result (λ typed. AreTyped (option_map (λ v. v.items) typed)
+    ensures { IfOk result (λ typed. AreNamesTyped (option_map (λ v. v.items) typed)
         (context_of (env_in within.entry.scope))
         (all_pass Wanted.Integer (judge_generators (context_in within.entry) (generators_of generators.now)))
         (inside_all (generators_of generators.now) (context_in within.entry))) }

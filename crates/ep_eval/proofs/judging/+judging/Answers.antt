@@ -4,7 +4,7 @@ use Rattle.ep_base.specs.Options.{map_both}
 use Rattle.ep_tree.proofs.TypeEquations.{judge-named, judge_domain-bool, judge_domain-int, judge_domain-named_domain}
 use Rattle.ep_tree.proofs.ViewLemmas.{kind_tree-absolute, kind_tree-all_different, kind_tree-all_of, kind_tree-any_of, kind_tree-at_least, kind_tree-at_most, kind_tree-binary, kind_tree-chain, kind_tree-compare, kind_tree-factorial, kind_tree-flatten, kind_tree-folded, kind_tree-gcc, kind_tree-group, kind_tree-in_set, kind_tree-lex, kind_tree-minus, kind_tree-named, kind_tree-negation, kind_tree-number, kind_tree-read, kind_tree-table, kind_tree-to_int, kind_tree-truth, kind_tree-in_domain, kind_tree-literal, domain_kind_tree-bool, domain_kind_tree-group, domain_kind_tree-int, domain_kind_tree-matrix, domain_kind_tree-named, domain_kind_tree-ranges, domain_kind_tree-set}
 use Rattle.ep_eval.specs.Scopes.{env_in}
-use Rattle.ep_eval.specs.Typing.{AreTyped, context_in, inside_names, readings, with_typed}
+use Rattle.ep_eval.specs.Typing.{AreNamesTyped, context_in, inside_names, readings, with_typed}
 use Rattle.ep_eval.proofs.TypedNames.{Read, comprehension_none, comprehension_told, generators_ended, generators_fail, generators_inside, generators_pass, generators_passed, names_ended, names_fail, names_inside, names_pass, names_passed, quantifier_none, quantifier_told, read_as}
 use Rattle.ep_tree.specs.Environments.{context_of}
 use Rattle.ep_tree.specs.declared.syntax.Generator.{Generator}
@@ -566,7 +566,7 @@ names_typed-loop-name-preserved t c =
     )
 
 pub names_typed-returns-in_default : goal.names_typed-returns-in_default
-unfolding AreTyped
+unfolding AreNamesTyped
 names_typed-returns-in_default t c =
     let outer = context_of (env_in c.args.within.scope) in
     let all : List Name = c.args.names.now in
@@ -581,7 +581,7 @@ names_typed-returns-in_default t c =
     (ap (λ ts. name_scalar (domain_type_at (with_typed ts outer) d)) (sym c.deref.ensures.value) ∙ ap name_scalar (sym c.in_ok-ty.ensures) ∙ sym c.name_scalar.ensures ∙ c.in_default.is)
 
 pub names_typed-returns : goal.names_typed-returns
-unfolding AreTyped
+unfolding AreNamesTyped
 names_typed-returns t c =
     let outer = context_of (env_in c.args.within.scope) in
     let all : List Name = c.args.names.now in
@@ -618,7 +618,7 @@ generators_typed-loop-generator-preserved t c =
     )
 
 pub generators_typed-returns-in_default : goal.generators_typed-returns-in_default
-unfolding AreTyped
+unfolding AreNamesTyped
 generators_typed-returns-in_default t c =
     let outer = context_of (env_in c.args.within.scope) in
     let all : List Generator = c.args.generators.now in
@@ -632,7 +632,7 @@ generators_typed-returns-in_default t c =
     (read_as c.in_ok-read.read None outer c.deref.result.now c.loop-generator.typed.items c.deref-in-loop-generator.result.now g c.deref.ensures.value c.deref-in-loop-generator.ensures.value c.in_default.is c.in_ok-read.ensures)
 
 pub generators_typed-returns : goal.generators_typed-returns
-unfolding AreTyped
+unfolding AreNamesTyped
 generators_typed-returns t c =
     let outer = context_of (env_in c.args.within.scope) in
     let all : List Generator = c.args.generators.now in
@@ -650,7 +650,7 @@ quantifier-returns-in_default-read t c =
     let d = domain_tree c.deref-in-Quant.result.now in
     quantifier_none k outer c.args.e.now.place c.args.e.now.kind c.in-Quant.op c.in-Quant.names c.in-Quant.domain c.in-Quant.body ns c.deref-in-Quant.result.now
     c.in-Quant.is c.deref.ensures.value c.deref-in-Quant.ensures
-    (subst (λ o. AreTyped (option_map (λ v. v.items) o) outer (all_pass Wanted.Integer (readings k ns d)) (inside_names k ns d)) c.in_default-read.is c.in_ok-read-in-Quant.ensures)
+    (subst (λ o. AreNamesTyped (option_map (λ v. v.items) o) outer (all_pass Wanted.Integer (readings k ns d)) (inside_names k ns d)) c.in_default-read.is c.in_ok-read-in-Quant.ensures)
 
 pub quantifier-returns-in_ok-holds-in-Quant : goal.quantifier-returns-in_ok-holds-in-Quant
 quantifier-returns-in_ok-holds-in-Quant t c =
@@ -661,7 +661,7 @@ quantifier-returns-in_ok-holds-in-Quant t c =
     quantifier_told k outer c.args.e.now.place c.args.e.now.kind c.in-Quant.op c.in-Quant.names c.in-Quant.domain c.in-Quant.body c.in-Some.typed.items c.deref-in-Quant-2.result.now
     ns c.deref-in-Quant.result.now c.deref-in-Quant-3.result.now c.quantified_part.result c.quantified_type.result c.in_ok-holds-in-Quant.holds c.type_if.result
     c.in-Quant.is c.deref.ensures.value c.deref-in-Quant.ensures c.deref-in-Quant-3.ensures
-    (subst (λ o. AreTyped (option_map (λ v. v.items) o) outer (all_pass Wanted.Integer (readings k ns d)) (inside_names k ns d)) c.in-Some.is c.in_ok-read-in-Quant.ensures)
+    (subst (λ o. AreNamesTyped (option_map (λ v. v.items) o) outer (all_pass Wanted.Integer (readings k ns d)) (inside_names k ns d)) c.in-Some.is c.in_ok-read-in-Quant.ensures)
     c.quantified_part.ensures c.quantified_type.ensures c.deref-in-Quant-2.ensures.value c.in_ok-holds-in-Quant.ensures c.type_if.ensures
 
 pub comprehension-returns-in_default-read : goal.comprehension-returns-in_default-read
@@ -671,7 +671,7 @@ comprehension-returns-in_default-read t c =
     let gs = c.deref.result.now in
     comprehension_none k outer c.args.e.now.place c.args.e.now.kind c.in-Comprehension.body c.in-Comprehension.generators c.in-Comprehension.conditions c.in-Comprehension.domain gs
     c.in-Comprehension.is c.deref.ensures.value
-    (subst (λ o. AreTyped (option_map (λ v. v.items) o) outer (all_pass Wanted.Integer (judge_generators k (generators_of gs))) (inside_all (generators_of gs) k)) c.in_default-read.is c.in_ok-read-in-Comprehension.ensures)
+    (subst (λ o. AreNamesTyped (option_map (λ v. v.items) o) outer (all_pass Wanted.Integer (judge_generators k (generators_of gs))) (inside_all (generators_of gs) k)) c.in_default-read.is c.in_ok-read-in-Comprehension.ensures)
 
 pub comprehension-returns-in_ok-types-in-Comprehension : goal.comprehension-returns-in_ok-types-in-Comprehension
 comprehension-returns-in_ok-types-in-Comprehension t c =
@@ -684,7 +684,7 @@ comprehension-returns-in_ok-types-in-Comprehension t c =
     c.in-Some.typed.items c.deref-in-Comprehension.result.now gs c.deref-in-Comprehension-2.result.now c.deref-in-Comprehension-3.result.now
     c.in_ok-index-in-Comprehension.index c.in_ok-truths-in-Comprehension.truths c.both.result c.in_ok-ty-in-Comprehension.ty (option_map (λ v. v.items) c.in_ok-types-in-Comprehension.types) ty
     c.in-Comprehension.is c.deref.ensures.value c.deref-in-Comprehension-2.ensures.value c.deref-in-Comprehension-3.ensures
-    (subst (λ o. AreTyped (option_map (λ v. v.items) o) outer (all_pass Wanted.Integer (judge_generators k (generators_of gs))) (inside_all (generators_of gs) k)) c.in-Some.is c.in_ok-read-in-Comprehension.ensures)
+    (subst (λ o. AreNamesTyped (option_map (λ v. v.items) o) outer (all_pass Wanted.Integer (judge_generators k (generators_of gs))) (inside_all (generators_of gs) k)) c.in-Some.is c.in_ok-read-in-Comprehension.ensures)
     c.in_ok-index-in-Comprehension.ensures c.deref-in-Comprehension.ensures.value c.in_ok-truths-in-Comprehension.ensures c.in_ok-ty-in-Comprehension.ensures
     (c.in_ok-types-in-Comprehension.ensures ∙ ap (λ l. map_both (λ all one. all ++ one ∷ []) (Some l) c.in_ok-ty-in-Comprehension.ty) c.new.ensures.items)
     c.both.ensures h)
