@@ -11,13 +11,13 @@ use Rattle.ep_flat.specs.Flats.{MapState}
 use Rattle.enc_var.specs.Decoding.{VariableLiterals}
 use Rattle.enc_var.specs.Layouts.{decoded_values}
 use Rattle.sat_split.specs.Cubes.{AreCubeVariables, all_given, cube_literals, unit_of}
-use Rattle.sat_cubes.specs.Answers.{value_at, IsSatIn, IsUnsat, IsSpentIn}
+use Rattle.sat_cubes.specs.Answers.{is_variable_true, IsSatIn, IsUnsat, IsSpentIn}
 use Rattle.std.proofs.lemmas.List.Elements.{All-nil, All-cons}
 use Rattle.ep_answer.specs.Answered.{FoundCells, solution, optimum, no_solution, unknown}
 use Rattle.ep_cubes.specs.Divided.{IsFoundBy, IsRightByCubes}
 
 module _ (layout : List VariableLiterals) (m : MapState) (f : Cnf) (most budget : ℕ) (vars : List ℕ) (are : AreCubeVariables most f.clauses vars) (events : List LogEvent) where
-  pub found_sat : (cube : ℕ) (values : List Bool) (cells : List ℤ) → IsSatIn f vars cube budget values events → cells ≡ numbers_of_vars (decoded_values layout (value_at values)) m.cells → IsFoundBy layout m f most budget events (solution cells)
+  pub found_sat : (cube : ℕ) (values : List Bool) (cells : List ℤ) → IsSatIn f vars cube budget values events → cells ≡ numbers_of_vars (decoded_values layout (is_variable_true values)) m.cells → IsFoundBy layout m f most budget events (solution cells)
   unfolding IsRightByCubes
   found_sat cube values cells sat is = record {
     vars = vars;
@@ -25,7 +25,7 @@ module _ (layout : List VariableLiterals) (m : MapState) (f : Cnf) (most budget 
     right = record {
       cube = cube;
       is_cube = sat.is_cube;
-      assignment = value_at values;
+      assignment = is_variable_true values;
       satisfies = sat.satisfies;
       lies_in = sat.lies_in;
       gives = sym is;

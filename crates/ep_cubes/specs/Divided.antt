@@ -8,7 +8,7 @@ use Rattle.ep_flat.specs.Flats.{MapState}
 use Rattle.enc_var.specs.Decoding.{VariableLiterals}
 use Rattle.enc_var.specs.Layouts.{decoded_cells}
 use Rattle.enc_var.specs.Notes.{cell_notes}
-use Rattle.sat_split.specs.Cubes.{AreCubeVariables, LiesIn, cube_literals}
+use Rattle.sat_split.specs.Cubes.{AreCubeVariables, LiesInCube, cube_literals}
 use Rattle.sat_cubes.specs.Answers.{NoneBelow, AreRefutedWithin, IsJoinedLog, IsUnsat, IsSpentIn}
 use Rattle.ep_answer.specs.Answered.{FoundCells, solution, optimum, no_solution, unknown}
 
@@ -19,14 +19,14 @@ pub record IsFoundInCube (layout : List VariableLiterals) (m : MapState) (f : Cn
   pub is_cube : cube < 2 ^ length vars
   pub assignment : ℕ → Bool
   pub satisfies : Satisfies assignment f.clauses
-  pub lies_in : LiesIn (cube_literals cube vars) assignment
+  pub lies_in : LiesInCube (cube_literals cube vars) assignment
   pub gives : decoded_cells layout m assignment ≡ cells
   pub none_below : NoneBelow f.clauses vars cube
   pub refuted_within : AreRefutedWithin f.clauses vars cube budget
   pub joined : IsJoinedLog f.clauses vars cube events
 
 -- The budget was spent in a cube. Nothing below it satisfies the formula, and each lower cube is refuted within the budget.
-pub record IsSpentInCube (f : Cnf) (vars : List ℕ) (budget : ℕ) (events : List LogEvent) : Type 0 where
+pub record IsCubeSpent (f : Cnf) (vars : List ℕ) (budget : ℕ) (events : List LogEvent) : Type 0 where
   pub cube : ℕ
   pub spent : IsSpentIn f vars cube budget events
 
@@ -35,7 +35,7 @@ unfoldable pub IsRightByCubes : List VariableLiterals → MapState → Cnf → L
 IsRightByCubes layout m f vars budget events (solution cells) = IsFoundInCube layout m f vars budget events cells
 IsRightByCubes layout m f vars budget events (optimum number cells) = ⊥
 IsRightByCubes layout m f vars budget events no_solution = IsUnsat f vars budget events
-IsRightByCubes layout m f vars budget events (unknown None) = IsSpentInCube f vars budget events
+IsRightByCubes layout m f vars budget events (unknown None) = IsCubeSpent f vars budget events
 IsRightByCubes layout m f vars budget events (unknown (Some best)) = ⊥
 
 -- The answer of the lowest cube that isn't refuted, over at most so many cube variables, each within the budget.

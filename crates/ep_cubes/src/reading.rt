@@ -14,7 +14,7 @@ use std::alloc::Global;
 
 /// The value of a variable, the first value being that of variable 1; false where there is none.
 fn value_at(values: &[bool], var: u64) -> bool
-    ensures { result ≡ answers.value_at values.now var }
+    ensures { result ≡ answers.is_variable_true values.now var }
 {
     let place = var.saturating_sub(1) as usize;
     if place < values.len() {
@@ -26,7 +26,7 @@ fn value_at(values: &[bool], var: u64) -> bool
 
 /// Whether what is known is so.
 fn holds(values: &[bool], known: Known) -> bool
-    ensures { result ≡ known_holds (answers.value_at values.now) known }
+    ensures { result ≡ known_holds (answers.is_variable_true values.now) known }
 {
     match known {
         Known::True => true,
@@ -38,7 +38,7 @@ fn holds(values: &[bool], known: Known) -> bool
 /// The number of a variable: the first of its domain's whose literal is true; 0 where there is none.
 fn number_of(alloc: Global, layout: &Layout, values: &[bool], var: u64) -> Result<i64, Memory>
     requires { var < length layout.now }
-    ensures { IfOk result (λ number. number ≡ number_at (decoded_values layout.now (answers.value_at values.now)) var) }
+    ensures { IfOk result (λ number. number ≡ number_at (decoded_values layout.now (answers.is_variable_true values.now)) var) }
 {
     let domain = listed(alloc, layout.domain(var))?;
     for number in &domain {
@@ -60,7 +60,7 @@ pub fn read_values(
 ) -> Result<Vec<i64>, Memory>
     requires { All (λ x. x < length layout.now) vars.now }
     ensures { IfOk result (λ found.
-        found.items ≡ numbers_of_vars (decoded_values layout.now (answers.value_at values.now)) vars.now) }
+        found.items ≡ numbers_of_vars (decoded_values layout.now (answers.is_variable_true values.now)) vars.now) }
 {
     let mut found = Vec::new(alloc);
     for var in vars {

@@ -26,9 +26,9 @@ use Rattle.ep_tree.specs.Closed.{IsClosed}
 use Rattle.ep_tree.specs.Solutions.{found_of}
 use Rattle.ep_tree.specs.declared.values.Mode.{Mode}
 use Rattle.ep_unroll.specs.Cells.{found_numbers, instance_cells}
-use Rattle.sat_split.specs.Cubes.{AreCubeVariables, LiesIn, all_given, cube_literals, unit_of}
+use Rattle.sat_split.specs.Cubes.{AreCubeVariables, LiesInCube, all_given, cube_literals, unit_of}
 use Rattle.sat_cubes.specs.Answers.{AreRefutedWithin, NoneBelow}
-use Rattle.ep_cubes.specs.Divided.{AnswersByCubes, IsFoundInCube, IsRightByCubes, IsSpentInCube as IsCellsSpent}
+use Rattle.ep_cubes.specs.Divided.{AnswersByCubes, IsFoundInCube, IsRightByCubes, IsCubeSpent as IsCellsSpent}
 use Rattle.ep_solve.specs.Formulas.{IsFormulaFor, Poses}
 use Rattle.ep_solve.specs.Logged.{IsLogged, Stands, TellNumbers, TellSolutions, added_clauses}
 use Rattle.ep_solve.specs.Reading.{answer_from, assignment_from}
@@ -69,13 +69,13 @@ module _ (clauses : List (List Literal)) (rest events : List LogEvent) (is : eve
   later-events = ap (drop (length clauses)) is ∙ ap (λ (n : ℕ). drop n (all_given clauses ++ rest)) (sym (length-map clauses given)) ∙ drop-append_seam (all_given clauses) rest
 
 -- an assignment satisfies a cube's literals as clauses exactly where it lies in the cube
-units-met : (s : ℕ → Bool) (literals : List Literal) → LiesIn literals s → Satisfies s (map unit_of literals)
+units-met : (s : ℕ → Bool) (literals : List Literal) → LiesInCube literals s → Satisfies s (map unit_of literals)
 units-met s [] lies = All-nil (SatisfiesClause s)
 units-met s (l ∷ literals) lies =
     All-cons (SatisfiesClause s) (unit_of l) (map unit_of literals) (record { literal = l; in_clause = Contains-here l []; is_true = All-head (IsTrueUnder s) l literals lies })
     (units-met s literals (All-tail (IsTrueUnder s) l literals lies))
 
-met-units : (s : ℕ → Bool) (literals : List Literal) → Satisfies s (map unit_of literals) → LiesIn literals s
+met-units : (s : ℕ → Bool) (literals : List Literal) → Satisfies s (map unit_of literals) → LiesInCube literals s
 met-units s [] met = All-nil (IsTrueUnder s)
 met-units s (l ∷ literals) met =
     let first = All-head (SatisfiesClause s) (unit_of l) (map unit_of literals) met in
@@ -200,7 +200,7 @@ module _ (mode : Mode) (i : Instance) (most budget : ℕ) (h : AreSolvedFor mode
   -- ---- what the log shows
 
   -- numbers that an assignment gives the cells are told by the notes
-  are-told : (vars : List ℕ) (cube : ℕ) (s : ℕ → Bool) (cells : List ℤ) → Satisfies s (base_clauses h.log) → LiesIn (cube_literals cube vars) s → decoded_cells h.layout h.variables s ≡ cells → AreToldInCube i h.log vars cube cells
+  are-told : (vars : List ℕ) (cube : ℕ) (s : ℕ → Bool) (cells : List ℤ) → Satisfies s (base_clauses h.log) → LiesInCube (cube_literals cube vars) s → decoded_cells h.layout h.variables s ≡ cells → AreToldInCube i h.log vars cube cells
   are-told vars cube s cells met lies gives = record {
     assignment = s;
     satisfies = met;

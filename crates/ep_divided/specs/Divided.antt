@@ -10,7 +10,7 @@ use Rattle.ep_tree.specs.Solutions.{Assigned, found_of}
 use Rattle.ep_tree.specs.declared.values.Mode.{Mode}
 use Rattle.ep_unroll.specs.Cells.{found_numbers, instance_cells}
 use Rattle.sat_search.specs.Logs.{EndsWithEmptyStep, IsSound}
-use Rattle.sat_split.specs.Cubes.{AreCubeVariables, LiesIn, cube_literals, unit_of}
+use Rattle.sat_split.specs.Cubes.{AreCubeVariables, LiesInCube, cube_literals, unit_of}
 use Rattle.sat_cubes.specs.Answers.{AreRefutedWithin, IsRefutedIn, NoneBelow}
 use Rattle.ep_solve.specs.Logged.{IsLogged, Stands, TellNumbers, TellSolutions, added_clauses}
 use Rattle.ep_solve.specs.Right.{IsSpent}
@@ -19,7 +19,7 @@ use Rattle.ep_solve.specs.Right.{IsSpent}
 pub record AreToldInCube (i : Instance) (log : LogState) (vars : List ℕ) (cube : ℕ) (numbers : List ℤ) : Type 0 where
   pub assignment : ℕ → Bool
   pub satisfies : Satisfies assignment (base_clauses log)
-  pub lies_in : LiesIn (cube_literals cube vars) assignment
+  pub lies_in : LiesInCube (cube_literals cube vars) assignment
   pub tell : TellNumbers assignment log.notes (instance_cells i) numbers
 
 -- A solution is told in a cube. Nothing in a lower cube satisfies what stands for the instance, each of these is refuted within the budget,

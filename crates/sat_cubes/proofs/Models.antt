@@ -12,10 +12,10 @@ use Rattle.cnf_core.proofs.Members.{All-from_contains, Contains-here, Contains-t
 use Rattle.cnf_core.proofs.Keeping.{satisfied_along}
 use Rattle.sat_search.specs.Logs.{IsSound, AddsSteps, EndsWithEmptyStep, NoneIsEmpty}
 use Rattle.sat_search.specs.View.{value_in}
-use Rattle.sat_split.specs.Cubes.{IsNamed, cube_literals, LiesIn, all_given, unit_of, cube_log}
+use Rattle.sat_split.specs.Cubes.{IsNamed, cube_literals, LiesInCube, all_given, unit_of, cube_log}
 use Rattle.sat_split.proofs.Cubes.{cube_names}
 use Rattle.sat_join.specs.Joins.{Divides}
-use Rattle.sat_cubes.specs.Answers.{value_at}
+use Rattle.sat_cubes.specs.Answers.{is_variable_true}
 use Rattle.sat_cubes.specs.Solving.{AreValues, IsModelIn, IsRefuted, IsSpentLog}
 
 values_one_more : (trues : List Literal) (place : ℕ) (values : List Bool) (b : Bool) → AreValues trues place values → b ≡ value_in trues (place + 1) → AreValues trues (place + 1) (values ++ b ∷ [])
@@ -48,13 +48,13 @@ only : (l x : Literal) → Contains (l ∷ []) x → l ≡ x
 only l x found = elim (Contains-cases l [] x found) [ inl is ↦ is | inr none ↦ absurd (none_in_nil x none) ]
 
 -- an assignment that lies in a cube satisfies the cube's literals as clauses
-units_satisfied : (s : ℕ → Bool) (literals : List Literal) → LiesIn literals s → Satisfies s (map unit_of literals)
+units_satisfied : (s : ℕ → Bool) (literals : List Literal) → LiesInCube literals s → Satisfies s (map unit_of literals)
 units_satisfied s literals lies =
     All-map (SatisfiesClause s) unit_of literals
     (All-weaker (IsTrueUnder s) (λ q. SatisfiesClause s (q ∷ [])) (λ q t. record { literal = q; in_clause = Contains-here q []; is_true = t }) literals lies)
 
 -- what satisfies the formula in a cube satisfies what the cube's search is given
-pub satisfied_in_cube : (s : ℕ → Bool) (clauses : List (List Literal)) (literals : List Literal) → LiesIn literals s → Satisfies s clauses → Satisfies s (clauses ++ map unit_of literals)
+pub satisfied_in_cube : (s : ℕ → Bool) (clauses : List (List Literal)) (literals : List Literal) → LiesInCube literals s → Satisfies s clauses → Satisfies s (clauses ++ map unit_of literals)
 satisfied_in_cube s clauses literals lies satisfied = All-append (SatisfiesClause s) clauses (map unit_of literals) satisfied (units_satisfied s literals lies)
 
 module _ (f : Cnf) (vars : List ℕ) (cube : ℕ) (are : All IsClause f.clauses) (names : NamesItsVariables f) (divides : Divides f.clauses vars) where
@@ -71,10 +71,10 @@ module _ (f : Cnf) (vars : List ℕ) (cube : ℕ) (are : All IsClause f.clauses)
   model : (trues : List Literal) (values : List Bool) → AreValues trues f.vars values → Satisfies (value_in trues) (f.clauses ++ map unit_of (cube_literals cube vars)) → IsModelIn f (cube_literals cube vars) values
   model trues values same satisfied = record {
     count = same.count;
-    satisfies = satisfied_along f.vars (value_in trues) (value_at values) f.clauses are names (λ v one below. sym (same.same v one below))
+    satisfies = satisfied_along f.vars (value_in trues) (is_variable_true values) f.clauses are names (λ v one below. sym (same.same v one below))
         (All-from_contains (SatisfiesClause (value_in trues)) f.clauses (λ c found.
         All-contains (SatisfiesClause (value_in trues)) (f.clauses ++ units) c satisfied (Contains-append_left f.clauses units c found)));
-    lies_in = All-from_contains (IsTrueUnder (value_at values)) (cube_literals cube vars) (λ q found.
+    lies_in = All-from_contains (IsTrueUnder (is_variable_true values)) (cube_literals cube vars) (λ q found.
         let h = All-contains (SatisfiesClause (value_in trues)) (f.clauses ++ units) (q ∷ []) satisfied
         (Contains-append_right f.clauses units (q ∷ []) (Contains-unit (cube_literals cube vars) q found)) in
         let t : IsTrueUnder (value_in trues) q = subst (IsTrueUnder (value_in trues)) (sym (only q h.literal h.in_clause)) h.is_true in

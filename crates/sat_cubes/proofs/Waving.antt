@@ -13,7 +13,7 @@ use Rattle.cnf_core.proofs.Members.{All-from_contains, none_in_nil}
 use Rattle.cnf_core.proofs.Following.{step_follows, clauses_of-push}
 use Rattle.sat_search.specs.Logs.{EndsWithEmptyStep}
 use Rattle.sat_search.proofs.Continued.{sound_givens}
-use Rattle.sat_split.specs.Cubes.{AreCubeVariables, cube_literals, LiesIn, all_given}
+use Rattle.sat_split.specs.Cubes.{AreCubeVariables, cube_literals, LiesInCube, all_given}
 use Rattle.sat_join.specs.Joins.{clause_at, IsRefutedAt, IsJoined, IsJoint, IsOfCubes, Divides, CanJoin, KeepsNew}
 use Rattle.sat_cubes.specs.Answers.{IsRefutedIn, IsJoinedLog, IsRefutedWithin, AreRefutedWithin, IsSatIn, IsUnsat, IsSpentIn}
 use Rattle.sat_cubes.specs.Solving.{IsModelIn, IsRefuted, IsSpentLog, IsSoFar, IsSolved, IsOpen, AreSolved, AreRefuted}
@@ -70,7 +70,7 @@ so_far_more f vars ends more joined new refuted so_far within is joint keeps cou
   new = keeps is.sound.effective so_far.new;
   none_below = λ c below. elim (cases_lt c (length ends)) [
     | inl before ↦ so_far.none_below c before
-    | inr after ↦ subst (λ (n : ℕ). (s : ℕ → Bool) → LiesIn (cube_literals n vars) s → Satisfies s f.clauses → ⊥) (let e : length ends ≡ c = omega (arith, below, after, count) in e) is.none
+    | inr after ↦ subst (λ (n : ℕ). (s : ℕ → Bool) → LiesInCube (cube_literals n vars) s → Satisfies s f.clauses → ⊥) (let e : length ends ≡ c = omega (arith, below, after, count) in e) is.none
   ];
   within = omega (arith, count, within);
   notes = notes ∙ so_far.notes;

@@ -6,19 +6,19 @@ use Rattle.cnf_core.specs.Formula.{Cnf}
 use Rattle.cnf_core.specs.Events.{LogEvent, LogState, is_given, clauses_of, nonempty_steps}
 use Rattle.cnf_core.specs.Steps.{IsValidLog, NonEmptyStepsAreNew}
 use Rattle.sat_search.specs.Logs.{IsSound, EndsWithEmptyStep, NoneIsEmpty}
-use Rattle.sat_split.specs.Cubes.{AreCubeVariables, cube_literals, LiesIn, IsFalseIn, all_given, cube_log}
+use Rattle.sat_split.specs.Cubes.{AreCubeVariables, cube_literals, LiesInCube, IsFalseIn, all_given, cube_log}
 use Rattle.sat_join.specs.Joins.{IsRefutation}
 use Rattle.sat_cubes.specs.declared.cubed.Cubed.{Cubed}
 use Rattle.sat_cubes.specs.declared.cubed.Cubed.TheVariants.{Sat, Unsat, Spent}
 
 -- the assignment of a list of values, the first being that of variable 1
-abbrev pub value_at : List Bool → ℕ → Bool
-value_at values v = slice_index_or values (v - 1) false
+abbrev pub is_variable_true : List Bool → ℕ → Bool
+is_variable_true values v = slice_index_or values (v - 1) false
 
 -- no assignment in a cube below the number satisfies the clauses
 abbrev pub NoneBelow : List (List Literal) → List ℕ → ℕ → Type 0
 NoneBelow clauses vars cube =
-    (c : ℕ) → c < cube → (s : ℕ → Bool) → LiesIn (cube_literals c vars) s → Satisfies s clauses → ⊥
+    (c : ℕ) → c < cube → (s : ℕ → Bool) → LiesInCube (cube_literals c vars) s → Satisfies s clauses → ⊥
 
 -- A cube is refuted within a budget: a log of its own begins with the formula's clauses and the cube's literals, has sound steps and ends with
 -- the empty one, and at most so many of its steps have a literal.
@@ -53,8 +53,8 @@ pub record IsJoinedLog (clauses : List (List Literal)) (vars : List ℕ) (cubes 
 pub record IsSatIn (f : Cnf) (vars : List ℕ) (cube budget : ℕ) (values : List Bool) (events : List LogEvent) : Type 0 where
   pub is_cube : cube < 2 ^ length vars
   pub count : length values ≡ f.vars
-  pub satisfies : Satisfies (value_at values) f.clauses
-  pub lies_in : LiesIn (cube_literals cube vars) (value_at values)
+  pub satisfies : Satisfies (is_variable_true values) f.clauses
+  pub lies_in : LiesInCube (cube_literals cube vars) (is_variable_true values)
   pub none_below : NoneBelow f.clauses vars cube
   pub refuted_within : AreRefutedWithin f.clauses vars cube budget
   pub joined : IsJoinedLog f.clauses vars cube events

@@ -7,9 +7,9 @@ use Rattle.cnf_core.specs.Events.{LogEvent, LogState, is_given, nonempty_steps}
 use Rattle.cnf_core.specs.Steps.{NonEmptyStepsAreNew}
 use Rattle.sat_search.specs.Logs.{IsSound, NoneIsEmpty}
 use Rattle.sat_search.specs.View.{value_in}
-use Rattle.sat_split.specs.Cubes.{cube_literals, LiesIn, cube_log}
+use Rattle.sat_split.specs.Cubes.{cube_literals, LiesInCube, cube_log}
 use Rattle.sat_join.specs.Joins.{IsRefutation, Divides, IsJoint}
-use Rattle.sat_cubes.specs.Answers.{value_at, NoneBelow}
+use Rattle.sat_cubes.specs.Answers.{is_variable_true, NoneBelow}
 use Rattle.sat_cubes.specs.declared.solving.Solved.{Solved}
 use Rattle.sat_cubes.specs.declared.solving.Solved.TheVariants.{Sat, Unsat, Spent}
 use Rattle.sat_cubes.specs.declared.solving.Left.{Left}
@@ -19,19 +19,19 @@ use Rattle.ep_base.specs.declared.errors.Memory.{Memory}
 -- the values of the variables from 1 on are those that these literals give them
 pub record AreValues (trues : List Literal) (vars : ℕ) (values : List Bool) : Type 0 where
   pub count : length values ≡ vars
-  pub same : (v : ℕ) → 1 ≤ v → v ≤ vars → value_at values v ≡ value_in trues v
+  pub same : (v : ℕ) → 1 ≤ v → v ≤ vars → is_variable_true values v ≡ value_in trues v
 
 -- values that satisfy the formula, in the cube of these literals
 pub record IsModelIn (f : Cnf) (literals : List Literal) (values : List Bool) : Type 0 where
   pub count : length values ≡ f.vars
-  pub satisfies : Satisfies (value_at values) f.clauses
-  pub lies_in : LiesIn literals (value_at values)
+  pub satisfies : Satisfies (is_variable_true values) f.clauses
+  pub lies_in : LiesInCube literals (is_variable_true values)
 
 -- the log of a cube in which nothing satisfies the formula
 pub record IsRefuted (f : Cnf) (literals : List Literal) (log : LogState) : Type 0 where
   pub refutation : IsRefutation f.clauses literals log.events
   pub sound : IsSound log.events
-  pub none : (s : ℕ → Bool) → LiesIn literals s → Satisfies s f.clauses → ⊥
+  pub none : (s : ℕ → Bool) → LiesInCube literals s → Satisfies s f.clauses → ⊥
 
 -- the log of a cube whose budget is spent
 pub record IsSpentLog (f : Cnf) (literals : List Literal) (budget : ℕ) (log : LogState) : Type 0 where

@@ -9,7 +9,7 @@ use Rattle.cnf_core.specs.Clauses.{IsTrueUnder, SatisfiesClause}
 use Rattle.cnf_core.proofs.Literals.{literal_ext}
 use Rattle.cnf_core.proofs.Members.{Contains-here, Contains-there, Contains-cases, none_in_nil, either}
 use Rattle.cnf_core.proofs.Following.{values_consistent}
-use Rattle.sat_split.specs.Cubes.{cube_literals, LiesIn, IsFalseIn}
+use Rattle.sat_split.specs.Cubes.{cube_literals, LiesInCube, IsFalseIn}
 
 pub pairs_head : (v : ℕ) (vars : List ℕ) → AllPairs ◌<◌ (v ∷ vars) → All (λ w. v < w) vars
 pairs_head v vars pairs = All-from_get_or (λ (w : ℕ). v < w) vars 0 (λ i below. pairs 0 (suc i) 0 (omega arith) (omega arith))
@@ -76,7 +76,7 @@ cubes_differ one other (v ∷ vars) below also differ = elim (either (nat_eq (on
 ]
 
 -- a clause that is false in a cube isn't satisfied there
-pub refuted_there : (literals clause : List Literal) (s : ℕ → Bool) → IsFalseIn literals clause → LiesIn literals s → SatisfiesClause s clause → ⊥
+pub refuted_there : (literals clause : List Literal) (s : ℕ → Bool) → IsFalseIn literals clause → LiesInCube literals s → SatisfiesClause s clause → ⊥
 refuted_there literals clause s is_false lies satisfied =
     values_consistent s satisfied.literal satisfied.is_true
     (All-contains (IsTrueUnder s) literals (negation satisfied.literal) lies

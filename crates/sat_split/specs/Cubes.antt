@@ -25,8 +25,8 @@ cube_literals cube [] = []
 cube_literals cube (v ∷ vars) = record { var = v; positive = cube % 2 == 1 } ∷ cube_literals (cube / 2) vars
 
 -- an assignment lies in a cube where it makes each of the cube's literals true
-abbrev pub LiesIn : List Literal → (ℕ → Bool) → Type 0
-LiesIn literals s = All (IsTrueUnder s) literals
+abbrev pub LiesInCube : List Literal → (ℕ → Bool) → Type 0
+LiesInCube literals s = All (IsTrueUnder s) literals
 
 -- each literal of the clause is false in the cube
 abbrev pub IsFalseIn : List Literal → List Literal → Type 0

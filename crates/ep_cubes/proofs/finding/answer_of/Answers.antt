@@ -2,7 +2,7 @@ use Rattle.std.proofs.Common.{Bool, List, ap, ◌∙◌, subst}
 use Rattle.ep_flat.specs.Cons.{numbers_of_vars}
 use Rattle.ep_flat.specs.FlatViews.{plain_map}
 use Rattle.enc_var.specs.Layouts.{decoded_values}
-use Rattle.sat_cubes.specs.Answers.{IsCubed, value_at}
+use Rattle.sat_cubes.specs.Answers.{IsCubed, is_variable_true}
 use Rattle.sat_cubes.specs.declared.cubed.Cubed.TheVariants as cubed
 use Rattle.ep_cubes.proofs.Marking.{found_sat, found_none, found_spent}
 use Rattle.ep_cubes.proofs.finding.answer_of.Goals as goal
@@ -14,8 +14,8 @@ returns-in_ok-cells-in-Sat c = λ f most budget is.
     let m = plain_map c.args.cell_map.now in
     found_sat layout m f most budget it.vars it.are c.in-Sat.log.events c.in-Sat.cube c.in-Sat.values.items c.in_ok-cells-in-Sat.cells.items it.answer.0
     (c.in_ok-cells-in-Sat.ensures
-    ∙ ap (λ (values : List Bool). numbers_of_vars (decoded_values layout (value_at values)) c.as_slice.result.now) c.deref.ensures.value
-    ∙ ap (numbers_of_vars (decoded_values layout (value_at c.in-Sat.values.items))) c.as_slice.ensures.value)
+    ∙ ap (λ (values : List Bool). numbers_of_vars (decoded_values layout (is_variable_true values)) c.as_slice.result.now) c.deref.ensures.value
+    ∙ ap (numbers_of_vars (decoded_values layout (is_variable_true c.in-Sat.values.items))) c.as_slice.ensures.value)
 
 pub returns-in-Unsat : goal.returns-in-Unsat
 returns-in-Unsat c = λ f most budget is.

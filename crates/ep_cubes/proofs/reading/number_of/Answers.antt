@@ -3,20 +3,20 @@ use Rattle.std.proofs.lemmas.Int.{to_z-of_z}
 use Rattle.std.proofs.lemmas.List.{at_drop_more, at_drop_all}
 use Rattle.enc_var.specs.Decoding.{VariableLiterals, eq_of, known_holds}
 use Rattle.enc_var.specs.Layouts.{literals_at}
-use Rattle.sat_cubes.specs.Answers.{value_at}
+use Rattle.sat_cubes.specs.Answers.{is_variable_true}
 use Rattle.ep_answer.proofs.Deciding.{number_is}
 use Rattle.ep_cubes.proofs.Told.{first_told, told_all, told_here, told_later, told_nowhere}
 use Rattle.ep_cubes.proofs.reading.number_of.Goals as goal
 
 pub loop-number-init : goal.loop-number-init
 loop-number-init c =
-    let s : ℕ → Bool = value_at c.args.values.now in
+    let s : ℕ → Bool = is_variable_true c.args.values.now in
     let e : VariableLiterals = literals_at c.args.layout.now c.args.var in
     ap (first_told s e) (c.deref-number-items.ensures.value ∙ c.in_ok-domain.ensures ∙ c.domain.ensures) ∙ told_all s e
 
 pub returns-then-holds : goal.returns-then-holds
 returns-then-holds c =
-    let s : ℕ → Bool = value_at c.args.values.now in
+    let s : ℕ → Bool = is_variable_true c.args.values.now in
     let e : VariableLiterals = literals_at c.args.layout.now c.args.var in
     let items : List ℤ = c.deref-number-items.result.now in
     let k : ℕ = c.loop-number.number-index in
@@ -29,7 +29,7 @@ returns-then-holds c =
 
 pub loop-number-preserved : goal.loop-number-preserved
 loop-number-preserved c =
-    let s : ℕ → Bool = value_at c.args.values.now in
+    let s : ℕ → Bool = is_variable_true c.args.values.now in
     let e : VariableLiterals = literals_at c.args.layout.now c.args.var in
     let items : List ℤ = c.deref-number-items.result.now in
     let k : ℕ = c.loop-number.number-index in
@@ -40,7 +40,7 @@ loop-number-preserved c =
 
 pub returns : goal.returns
 returns c =
-    let s : ℕ → Bool = value_at c.args.values.now in
+    let s : ℕ → Bool = is_variable_true c.args.values.now in
     let e : VariableLiterals = literals_at c.args.layout.now c.args.var in
     let items : List ℤ = c.deref-number-items.result.now in
     let k : ℕ = c.loop-number.number-index in
