@@ -18,11 +18,11 @@ counts : map solution_count (codes "all" ∷ codes "1000000" ∷ codes "1000001"
 counts = refl
 
 -- what settings ask for, task by task
-model_alone : job_of ((codes "in-eprime", codes "m") ∷ []) ≡ Some (Solve (codes "m") None 1000000 None None None Mode.Relational)
+model_alone : job_of ((codes "in-eprime", codes "m") ∷ []) ≡ Some (Solve (codes "m") None 1000000 None None None Mode.Relational None)
 model_alone = refl
 
-all_of_solve : job_of ((codes "out-log", codes "l") ∷ (codes "task", codes "solve") ∷ (codes "conflicts", codes "7") ∷ (codes "in-eprime", codes "m") ∷ (codes "out-cnf", codes "c") ∷ (codes "in-param", codes "p") ∷ (codes "undefined", codes "strict") ∷ (codes "out-solution", codes "s") ∷ [])
-    ≡ Some (Solve (codes "m") (Some (codes "p")) 7 (Some (codes "s")) (Some (codes "c")) (Some (codes "l")) Mode.Strict)
+all_of_solve : job_of ((codes "out-log", codes "l") ∷ (codes "task", codes "solve") ∷ (codes "conflicts", codes "7") ∷ (codes "in-eprime", codes "m") ∷ (codes "out-cnf", codes "c") ∷ (codes "in-param", codes "p") ∷ (codes "undefined", codes "strict") ∷ (codes "cubes", codes "6") ∷ (codes "out-solution", codes "s") ∷ [])
+    ≡ Some (Solve (codes "m") (Some (codes "p")) 7 (Some (codes "s")) (Some (codes "c")) (Some (codes "l")) Mode.Strict (Some 6))
 all_of_solve = refl
 
 listing : job_of ((codes "task", codes "enumerate") ∷ (codes "in-eprime", codes "m") ∷ (codes "solutions", codes "all") ∷ [])
@@ -74,6 +74,10 @@ no_jobs : map job_of (
     ∷ ((codes "in-eprime", codes "m") ∷ (codes "conflicts", codes "0") ∷ [])
     ∷ ((codes "in-eprime", codes "m") ∷ (codes "solutions", codes "2") ∷ [])
     ∷ ((codes "in-eprime", codes "m") ∷ (codes "workers", codes "2") ∷ [])
+    ∷ ((codes "in-eprime", codes "m") ∷ (codes "cubes", codes "0") ∷ [])
+    ∷ ((codes "in-eprime", codes "m") ∷ (codes "cubes", codes "7") ∷ [])
+    ∷ ((codes "task", codes "enumerate") ∷ (codes "in-eprime", codes "m") ∷ (codes "solutions", codes "all") ∷ (codes "cubes", codes "2") ∷ [])
+    ∷ ((codes "task", codes "explain") ∷ (codes "in-eprime", codes "m") ∷ (codes "cubes", codes "2") ∷ [])
     ∷ ((codes "task", codes "explain") ∷ [])
     ∷ ((codes "task", codes "explain") ∷ (codes "in-eprime", codes "m") ∷ (codes "out-solution", codes "s") ∷ [])
     ∷ ((codes "task", codes "opb") ∷ [])
@@ -92,11 +96,11 @@ no_jobs : map job_of (
     ∷ ((codes "task", codes "check") ∷ (codes "in-cnf", codes "c") ∷ (codes "in-log", codes "l") ∷ (codes "undefined", codes "strict") ∷ [])
     ∷ ((codes "task", codes "generate") ∷ (codes "number", codes "0") ∷ (codes "undefined", codes "strict") ∷ [])
     ∷ ((codes "task", codes "Solve") ∷ (codes "in-eprime", codes "m") ∷ [])
-    ∷ []) ≡ None ∷ None ∷ None ∷ None ∷ None ∷ None ∷ None ∷ None ∷ None ∷ None ∷ None ∷ None ∷ None ∷ None ∷ None ∷ None ∷ None ∷ None ∷ None ∷ None ∷ None ∷ None ∷ None ∷ None ∷ []
+    ∷ []) ≡ None ∷ None ∷ None ∷ None ∷ None ∷ None ∷ None ∷ None ∷ None ∷ None ∷ None ∷ None ∷ None ∷ None ∷ None ∷ None ∷ None ∷ None ∷ None ∷ None ∷ None ∷ None ∷ None ∷ None ∷ None ∷ None ∷ None ∷ None ∷ []
 no_jobs = refl
 
 -- a value may begin with `-` behind a `=`, and may have a `=` itself
-solve_line : IsCommand (codes "--in-eprime" ∷ codes "a=b" ∷ codes "--in-param=-p" ∷ []) (Solve (codes "a=b") (Some (codes "-p")) 1000000 None None None Mode.Relational)
+solve_line : IsCommand (codes "--in-eprime" ∷ codes "a=b" ∷ codes "--in-param=-p" ∷ []) (Solve (codes "a=b") (Some (codes "-p")) 1000000 None None None Mode.Relational None)
 solve_line = record {
   settings = (codes "in-eprime", codes "a=b") ∷ (codes "in-param", codes "-p") ∷ [];
   made = (

@@ -31,6 +31,15 @@ conflicts_of settings = number_or 1000000 (number_within 1 1000000000) (value_of
 abbrev pub workers_of : List Setting → Option ℕ
 workers_of settings = number_or 1 (number_within 1 64) (value_of (codes "workers") settings)
 
+-- the number that an option is given, or none where it isn't set
+abbrev pub number_if_set : (Text → Option ℕ) → Option Text → Option (Option ℕ)
+number_if_set read None = Some None
+number_if_set read (Some text) = option_map Some (read text)
+
+-- over how many variables a formula is to be divided, where that is wanted
+abbrev pub cubes_of : List Setting → Option (Option ℕ)
+cubes_of settings = number_if_set (number_within 1 6) (value_of (codes "cubes") settings)
+
 -- a number of solutions, or `all`, which stands for the greatest number of them
 abbrev pub solution_count : Text → Option ℕ
 solution_count text = if bytes_eq text (codes "all") then Some 1000000 else number_within 1 1000000 text
@@ -69,7 +78,7 @@ sets_only names settings = list_all (λ setting. is_one_of names setting.0) sett
 abbrev pub solve_options : List Text
 solve_options =
     codes "task" ∷ codes "in-eprime" ∷ codes "in-param" ∷ codes "conflicts" ∷ codes "out-solution" ∷ codes "out-cnf"
-    ∷ codes "out-log" ∷ codes "undefined" ∷ []
+    ∷ codes "out-log" ∷ codes "undefined" ∷ codes "cubes" ∷ []
 
 abbrev pub enumerate_options : List Text
 enumerate_options =
@@ -99,9 +108,11 @@ abbrev pub solve_job : List Setting → Option Job
 solve_job s =
     option_and_then (λ in_eprime.
     option_and_then (λ conflicts.
-    option_map (λ undefined.
+    option_and_then (λ undefined.
+    option_map (λ cubes.
     Solve in_eprime (value_of (codes "in-param") s) conflicts (value_of (codes "out-solution") s)
-    (value_of (codes "out-cnf") s) (value_of (codes "out-log") s) undefined)
+    (value_of (codes "out-cnf") s) (value_of (codes "out-log") s) undefined cubes)
+    (cubes_of s))
     (mode_of s))
     (conflicts_of s))
     (value_of (codes "in-eprime") s)

@@ -14,7 +14,7 @@ Setting = Text × Text
 abbrev pub options : List Text
 options =
     codes "task" ∷ codes "in-eprime" ∷ codes "in-param" ∷ codes "in-solution" ∷ codes "in-cnf" ∷ codes "in-log" ∷ codes "in-opb"
-    ∷ codes "solutions" ∷ codes "conflicts" ∷ codes "workers" ∷ codes "number" ∷ codes "out-eprime"
+    ∷ codes "solutions" ∷ codes "conflicts" ∷ codes "workers" ∷ codes "cubes" ∷ codes "number" ∷ codes "out-eprime"
     ∷ codes "out-param" ∷ codes "out-cnf" ∷ codes "out-log" ∷ codes "out-solution" ∷ codes "undefined" ∷ []
 
 -- the word that names an option

@@ -6,7 +6,7 @@ use ep_tree::Mode;
 /// What a command asks for. A field holds the value of the option of its name.
 #[derive(Debug, Drop)]
 pub enum Job {
-    /// To solve a model.
+    /// To solve a model, by cubes of its formula over so many variables where their number is set.
     Solve {
         in_eprime: Word,
         in_param: Option<Word>,
@@ -15,6 +15,7 @@ pub enum Job {
         out_cnf: Option<Word>,
         out_log: Option<Word>,
         undefined: Mode,
+        cubes: Option<u64>,
     },
     /// To list the solutions of a model, at most so many.
     Enumerate {

@@ -9,7 +9,7 @@ use crate::job::Job;
 use crate::modes::mode_in;
 use crate::task::{self, Task};
 use crate::values::{
-    conflicts, needed_word, number, set_only, solutions, value_in, word_in, workers,
+    conflicts, cubes, needed_word, number, set_only, solutions, value_in, word_in, workers,
 };
 use clap::ArgMatches;
 use std::alloc::Global;
@@ -68,6 +68,7 @@ fn solve(alloc: Global, settings: &ArgMatches) -> Result<Job, WordsError>
         "out-cnf",
         "out-log",
         "undefined",
+        "cubes",
     ];
     if !set_only(settings, &allowed) {
         return Err(WordsError::Usage);
@@ -75,6 +76,7 @@ fn solve(alloc: Global, settings: &ArgMatches) -> Result<Job, WordsError>
     let in_eprime = needed_word(alloc, settings, "in-eprime")?;
     let conflicts = conflicts(settings).ok_or(WordsError::Usage)?;
     let undefined = mode_in(settings).ok_or(WordsError::Usage)?;
+    let cubes = cubes(settings)?;
     Ok(Job::Solve {
         in_eprime,
         in_param: word_in(alloc, settings, "in-param")?,
@@ -83,6 +85,7 @@ fn solve(alloc: Global, settings: &ArgMatches) -> Result<Job, WordsError>
         out_cnf: word_in(alloc, settings, "out-cnf")?,
         out_log: word_in(alloc, settings, "out-log")?,
         undefined,
+        cubes,
     })
 }
 

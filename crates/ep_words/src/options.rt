@@ -11,7 +11,7 @@ use clap::{Arg, ArgAction, ArgMatches, Command};
 use std::alloc::{AllocError, Global};
 
 /// The names of the options.
-const OPTIONS: [&str; 17] = [
+const OPTIONS: [&str; 18] = [
     "task",
     "in-eprime",
     "in-param",
@@ -22,6 +22,7 @@ const OPTIONS: [&str; 17] = [
     "solutions",
     "conflicts",
     "workers",
+    "cubes",
     "number",
     "out-eprime",
     "out-param",

@@ -23,22 +23,27 @@ fn answer_to(alloc: Global, line: &str) -> Result<String, Fail> {
 }
 
 /// Lines, each with the job that it asks for.
-const COMMANDS: [(&str, &str); 12] = [
+const COMMANDS: [(&str, &str); 13] = [
     (
         "--in-eprime m",
         "Solve { in_eprime: Word { text: \"m\" }, in_param: None, conflicts: 1000000, \
-         out_solution: None, out_cnf: None, out_log: None, undefined: Relational }",
+         out_solution: None, out_cnf: None, out_log: None, undefined: Relational, cubes: None }",
     ),
     (
         "--out-log=l --conflicts=7 --in-eprime=a=b --task solve --out-cnf c --in-param=-p --out-solution s",
         "Solve { in_eprime: Word { text: \"a=b\" }, in_param: Some(Word { text: \"-p\" }), conflicts: 7, \
          out_solution: Some(Word { text: \"s\" }), out_cnf: Some(Word { text: \"c\" }), \
-         out_log: Some(Word { text: \"l\" }), undefined: Relational }",
+         out_log: Some(Word { text: \"l\" }), undefined: Relational, cubes: None }",
     ),
     (
         "--undefined strict --in-eprime m",
         "Solve { in_eprime: Word { text: \"m\" }, in_param: None, conflicts: 1000000, \
-         out_solution: None, out_cnf: None, out_log: None, undefined: Strict }",
+         out_solution: None, out_cnf: None, out_log: None, undefined: Strict, cubes: None }",
+    ),
+    (
+        "--in-eprime m --cubes=3",
+        "Solve { in_eprime: Word { text: \"m\" }, in_param: None, conflicts: 1000000, \
+         out_solution: None, out_cnf: None, out_log: None, undefined: Relational, cubes: Some(3) }",
     ),
     (
         "--task explain --in-eprime m --in-param p",
@@ -84,7 +89,7 @@ const COMMANDS: [(&str, &str); 12] = [
 ];
 
 /// Lines that are no command.
-const NO_COMMANDS: [&str; 33] = [
+const NO_COMMANDS: [&str; 36] = [
     "--task solve",
     "",
     "--in-eprime m --conflicts 0",
@@ -107,6 +112,9 @@ const NO_COMMANDS: [&str; 33] = [
     "--in-eprime m --undefined lax",
     "--in-eprime m --undefined=",
     "--in-eprime m --undefined strict --undefined strict",
+    "--in-eprime m --cubes 7",
+    "--in-eprime m --cubes 0",
+    "--task enumerate --in-eprime m --solutions all --cubes 2",
     "--task explain --in-param p",
     "--task explain --in-eprime m --out-log l",
     "--task opb",

@@ -2,7 +2,7 @@
 
 ghost use Rattle.std.specs.Prelude.{◌≡◌, ◌≤◌, ℕ, List, length, true, map, option_map, IfOk, MatchResult};
 ghost use Rattle.ep_words.specs.Settings.{value_of};
-ghost use Rattle.ep_words.specs.Jobs.{number_within, solution_count, sets_only, conflicts_of, workers_of};
+ghost use Rattle.ep_words.specs.Jobs.{number_within, solution_count, sets_only, conflicts_of, cubes_of, workers_of};
 ghost use Rattle.ep_words.specs.Views.{settings_of};
 ghost use Rattle.std.specs.List.{list_all, list_any};
 ghost use Rattle.std.specs.Str.{bytes_eq};
@@ -84,6 +84,21 @@ pub(crate) fn workers(settings: &ArgMatches) -> Option<u64>
     match value_in(settings, "workers") {
         Some(text) => number(text, 1, 64),
         None => Some(1),
+    }
+}
+
+/// Over how many variables a formula is to be divided, where that is wanted.
+pub(crate) fn cubes(settings: &ArgMatches) -> Result<Option<u64>, WordsError>
+    ensures { MatchResult result
+        (λ cubes. cubes_of (settings_of settings.now) ≡ Some cubes)
+        (λ error. error ≡ WordsError.Usage → cubes_of (settings_of settings.now) ≡ None) }
+{
+    match value_in(settings, "cubes") {
+        Some(text) => match number(text, 1, 6) {
+            Some(count) => Ok(Some(count)),
+            None => Err(WordsError::Usage),
+        },
+        None => Ok(None),
     }
 }
 
