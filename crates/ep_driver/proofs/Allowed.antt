@@ -4,11 +4,11 @@ use Rattle.std.proofs.lemmas.Bool.{cases_Bool}
 use Rattle.std.proofs.lemmas.Bool.Decides.{nat_tests}
 use Rattle.std.specs.Str.Parse.{digits_value}
 use Rattle.ep_base.specs.TokenTexts.{is_number}
-use Rattle.ep_words.specs.Jobs.{check_job, check_options, conflicts_of as set_conflicts, enumerate_job, enumerate_options, explain_job, explain_options, generate_job, generate_options, job_of, mode_of, number_or, number_within, opb_job, opb_options, sets_only, solution_count, solve_job, solve_options, verify_job, verify_options, workers_of}
+use Rattle.ep_words.specs.Jobs.{check_job, check_options, conflicts_of as set_conflicts, cubes_of, enumerate_job, enumerate_options, explain_job, explain_options, generate_job, generate_options, job_of, mode_of, number_if_set, number_or, number_within, opb_job, opb_options, sets_only, solution_count, solve_job, solve_options, verify_job, verify_options, workers_of}
 use Rattle.ep_words.specs.Settings.{Setting, Text, value_of}
 use Rattle.ep_tree.specs.declared.values.Mode.{Mode}
-use Rattle.ep_driver.specs.Commands.{Want, conflicts_wanted, no_outputs, wanted_of}
-use Rattle.ep_driver.specs.Searches.{CanBeRequested, CanBeWanted, IsSearchFor}
+use Rattle.ep_driver.specs.Commands.{Want, conflicts_wanted, no_outputs, one_within, wanted_of}
+use Rattle.ep_driver.specs.Searches.{CanBeRequested, CanBeWanted, HasFewCubes, IsSearchFor}
 use Rattle.ep_words.specs.declared.job.Job.{Job}
 use Rattle.ep_driver.specs.declared.wanted.Outputs.{Outputs}
 use Rattle.ep_driver.specs.declared.wanted.Request.{Request}
@@ -69,9 +69,32 @@ kept-number text n e = bounded-number (is_number text && nat_le (length text) 10
 
 -- ---- jobs
 
--- a search of this job may take a conflict, and its number has texts
+-- cubes are over six variables at most, where they are wanted
+abbrev AreFew : Option ℕ → Type 0
+AreFew None = Unit {0}
+AreFew (Some cubes) = cubes ≤ 6
+
+mapped-few : (o : Option ℕ) (cubes : Option ℕ) → ((n : ℕ) → o ≡ Some n → n ≤ 6) → option_map Some o ≡ Some cubes → AreFew cubes
+mapped-few None cubes all e = absurd cc
+mapped-few (Some n) cubes all e = let same : Some n ≡ cubes = cc in subst AreFew same (all n refl)
+
+-- a number from 1 to 6
+few-number : (digits : Bool) (value n : ℕ) → (if digits && (nat_le 1 value && nat_le value 6) then Some value else None) ≡ Some n → n ≤ 6
+few-number digits value n e =
+    if-tested (λ m. m ≤ 6) (digits && (nat_le 1 value && nat_le value 6)) (Some value) n
+    (λ t m same.
+    let here : value ≡ m = cc in
+    let low : value ≤ 6 = at-most value 6 (last-of digits (nat_le 1 value) (nat_le value 6) t) in
+    subst (λ (k : ℕ). k ≤ 6) here low)
+    e
+
+set-cubes : (text : Option Text) (cubes : Option ℕ) → number_if_set (number_within 1 6) text ≡ Some cubes → AreFew cubes
+set-cubes None cubes e = let same : None ≡ cubes = cc in subst AreFew same tt
+set-cubes (Some text) cubes e = mapped-few (number_within 1 6 text) cubes (λ n f. few-number (is_number text && nat_le (length text) 10) (digits_value 10 text) n f) e
+
+-- a search of this job may take a conflict, its cubes are few, and its number has texts
 abbrev HasBudget : Job → Type 0
-HasBudget (Job.Solve _ _ conflicts _ _ _ _) = 1 ≤ conflicts
+HasBudget (Job.Solve _ _ conflicts _ _ _ _ cubes) = (1 ≤ conflicts) × AreFew cubes
 HasBudget (Job.Enumerate _ _ _ conflicts _ _ _ _) = 1 ≤ conflicts
 HasBudget (Job.Explain _ _ conflicts _) = 1 ≤ conflicts
 HasBudget (Job.Opb _ conflicts) = 1 ≤ conflicts
@@ -81,10 +104,11 @@ HasBudget (Job.Generate number conflicts _ _) = (1 ≤ conflicts) × (number ≤
 
 solve-budget : (s : List Setting) (job : Job) → solve_job s ≡ Some job → HasBudget job
 solve-budget s job e =
-    let make : Text → ℕ → Mode → Job = λ m n u. Job.Solve m (value_of (codes "in-param") s) n (value_of (codes "out-solution") s) (value_of (codes "out-cnf") s) (value_of (codes "out-log") s) u in
-    all-and-then HasBudget (λ m. option_and_then (λ n. option_map (make m n) (mode_of s)) (set_conflicts s))
-    (λ m. all-within HasBudget (λ n. option_map (make m n) (mode_of s)) (set_conflicts s)
-    (λ n f. all-mapped HasBudget (make m n) (mode_of s) (λ u g. set-number (value_of (codes "conflicts") s) n f)))
+    let make : Text → ℕ → Mode → Option ℕ → Job = λ m n u k. Job.Solve m (value_of (codes "in-param") s) n (value_of (codes "out-solution") s) (value_of (codes "out-cnf") s) (value_of (codes "out-log") s) u k in
+    all-and-then HasBudget (λ m. option_and_then (λ n. option_and_then (λ u. option_map (make m n u) (cubes_of s)) (mode_of s)) (set_conflicts s))
+    (λ m. all-within HasBudget (λ n. option_and_then (λ u. option_map (make m n u) (cubes_of s)) (mode_of s)) (set_conflicts s)
+    (λ n f. all-and-then HasBudget (λ u. option_map (make m n u) (cubes_of s))
+    (λ u. all-mapped HasBudget (make m n u) (cubes_of s) (λ k g. (set-number (value_of (codes "conflicts") s) n f, set-cubes (value_of (codes "cubes") s) k g))) (mode_of s)))
     (value_of (codes "in-eprime") s) job e
 
 enumerate-budget : (s : List Setting) (job : Job) → enumerate_job s ≡ Some job → HasBudget job
@@ -171,11 +195,15 @@ IsAllowed (Wanted.Check _ _ _) = Unit {0}
 IsAllowed (Wanted.Generate number conflicts eprime param) = (1 ≤ conflicts) × (number ≤ 1000000000)
 
 wanted-allowed : (job : Job) → HasBudget job → (wanted : Wanted) → wanted_of job ≡ wanted → IsAllowed wanted
-unfolding wanted_of conflicts_wanted
-wanted-allowed (Job.Solve m p n o c l u) has wanted e =
+unfolding wanted_of conflicts_wanted one_within
+wanted-allowed (Job.Solve m p n o c l u None) has wanted e =
     let outputs : Outputs = record { formula = c; log = l; solution = o } in
     let same : Wanted.Search m p u (Request.One n) outputs ≡ wanted = cc in
-    subst IsAllowed same (has, tt)
+    subst IsAllowed same (has.0, tt)
+wanted-allowed (Job.Solve m p n o c l u (Some k)) has wanted e =
+    let outputs : Outputs = record { formula = c; log = l; solution = o } in
+    let same : Wanted.Search m p u (Request.Divided k n) outputs ≡ wanted = cc in
+    subst IsAllowed same has
 wanted-allowed (Job.Enumerate m p most n o c l u) has wanted e =
     let outputs : Outputs = record { formula = c; log = l; solution = o } in
     let same : Wanted.Search m p u (Request.Many most n) outputs ≡ wanted = cc in
@@ -217,3 +245,14 @@ wants-budget words wanted conflicts want is = allowed-budget wanted conflicts (w
 -- what words want can be wanted
 pub wants-possible : (words : List (List ℕ)) (wanted : Wanted) → Want words wanted → CanBeWanted wanted
 wants-possible words wanted want = allowed-possible wanted (wants-allowed words wanted want)
+
+few-cubes : (q : Request) (o : Outputs) → CanBeRequested q o → HasFewCubes q
+few-cubes (Request.One conflicts) o h = tt
+few-cubes (Request.Divided cubes conflicts) o h = h
+few-cubes (Request.Many most conflicts) o h = tt
+few-cubes (Request.Explained conflicts) o h = tt
+few-cubes (Request.Generated number conflicts) o h = tt
+
+-- a search that can be wanted has few cubes
+pub few-wanted : (wanted : Wanted) {m : List ℕ} {p : Option (List ℕ)} {u : Mode} (q : Request) {o : Outputs} → wanted ≡ Wanted.Search m p u q o → CanBeWanted wanted → HasFewCubes q
+few-wanted wanted {m} {p} {u} q {o} is h = few-cubes q o (subst CanBeWanted is h)

@@ -58,13 +58,13 @@ one-budget (Wanted.Generate number most eprime param) m n g h = g ∙ sym h
 
 -- ---- the words and the log of a run
 
-pub below-said : FewSteps → (words : List (List ℕ)) (log : LogState) → WantOne words → NonEmptyStepsAreNew log.events → Spends words log → (wanted : Wanted) (conflicts : ℕ) → Want words wanted → IsSearchFor wanted conflicts → IsBelowPower conflicts log.events
-below-said few words log one new spends wanted conflicts want is =
+pub below-said : FewSteps → (words : List (List ℕ)) (log : LogState) → WantOne words → Spends words log → (wanted : Wanted) (conflicts : ℕ) → Want words wanted → IsSearchFor wanted conflicts → IsBelowPower conflicts log.events
+below-said few words log one spends wanted conflicts want is =
     let both : spends.0 ≡ wanted = one spends.0 wanted spends.2 want in
     let same : spends.1 ≡ conflicts = one-budget wanted spends.1 conflicts (subst (λ (w : Wanted). IsSearchFor w spends.1) both spends.3) is in
     let P : ℕ → Type 0 = λ n. IsBelowPower n log.events in
-    subst P same (below-power few spends.1 log.events new spends.4)
+    subst P same (below-power few spends.1 log.events spends.5.new spends.4)
 
-pub unforced-said : NoneAfterConflict → (words : List (List ℕ)) (log : LogState) → NonEmptyStepsAreEffective log.events → Spends words log → ¬ MeetsConflict (before_steps log.events)
-unforced-said none words log effective spends =
-    no-conflict none words spends.0 spends.1 log.events spends.2 spends.3 effective spends.4
+pub unforced-said : NoneAfterConflict → (words : List (List ℕ)) (log : LogState) → Spends words log → ¬ MeetsConflict (before_steps log.events)
+unforced-said none words log spends =
+    no-conflict none words spends.0 spends.1 log.events spends.2 spends.3 spends.5.effective spends.4

@@ -18,6 +18,7 @@ use Rattle.ep_driver.specs.Outcomes.{to_explain}
 use Rattle.ep_driver.specs.Promised.{IsExplanation}
 use Rattle.ep_driver.specs.Steps.{IsSearched}
 use Rattle.ep_files.specs.declared.status.Status.{Status}
+use Rattle.ep_driver.proofs.Tasks.{searched}
 
 explained-spent : (mode : Mode) (i : Instance) (conflicts : ℕ) (log : LogState) (said : Explained) (status : Status) → status ≡ explanation_status said → IsRightExplanation mode i conflicts log said
     → (status ≡ Status.Answered) ⊎ ((status ≡ Status.Unknown) × IsSpent conflicts log.events)
@@ -28,7 +29,7 @@ explained-spent mode i conflicts log (Spent numbers) status e right = inr (e, ri
 
 -- what is told ends as a search does
 pub told-ends : (mode : Mode) (i : Instance) (conflicts : ℕ) (log : LogState) (told : Told) (status : Status) → status ≡ spent_status told.is_open → IsTold mode i conflicts log told → IsSound log.events → IsSearched conflicts status log
-told-ends mode i conflicts log told status e h sound = (sound, explained-spent mode i conflicts log h.said status (e ∙ ap spent_status h.ends) h.right)
+told-ends mode i conflicts log told status e h sound = searched conflicts status log sound (explained-spent mode i conflicts log h.said status (e ∙ ap spent_status h.ends) h.right)
 
 -- what is told settles what is asked
 pub told-settles : (mode : Mode) (i : Instance) (conflicts : ℕ) (log : LogState) (told : Told) (status : Status) → status ≡ spent_status told.is_open → IsTold mode i conflicts log told → Settles (to_explain mode i conflicts) status told.text.items log

@@ -154,6 +154,7 @@ search_true : (held : Held) (mode : Mode) (q : Request) (model : List ℕ) (para
     → FilesMake held mode model params i → Settles (searched_task mode q i) status text log → IsPromised held (Wanted.Search model params mode q outputs) status text
 unfolding IsPromised Settles searched_task
 search_true held mode (Request.One conflicts) model params outputs i status text log make h = (i, make, h.0, answer_true mode i conflicts h.0 h.1, h.3, h.4)
+search_true held mode (Request.Divided cubes conflicts) model params outputs i status text log make h = (i, make, h.0, answer_true mode i conflicts h.0 h.1, h.3, h.4)
 search_true held mode (Request.Many most conflicts) model params outputs i status text log make h =
     (i, make, h.0, record { solutions = h.1.solutions; different = h.1.different; none_lacks = none_lacks mode i conflicts most log h.0.found h.0.ending h.1.ends }, h.2, h.3)
 search_true held mode (Request.Explained conflicts) model params outputs i status text log make h = (i, make, explanation_true mode i conflicts status text log h.0 h.1 h.2 h.3)

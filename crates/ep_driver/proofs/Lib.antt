@@ -14,6 +14,7 @@ mod Once
 mod ShownTexts
 mod OpbReplies
 mod Explanations
+mod Cubed
 mod Allowed
 mod Files
 mod Certified

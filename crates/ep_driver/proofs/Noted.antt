@@ -15,6 +15,7 @@ use Rattle.ep_driver.specs.Outcomes.{instance_of, searched_task}
 use Rattle.ep_driver.specs.Searches.{LogsInstance}
 use Rattle.ep_files.specs.declared.status.Status.{Status}
 use Rattle.ep_driver.specs.declared.wanted.Request.{Request}
+use Rattle.ep_driver.proofs.Cubed.{divided-stands}
 use Rattle.ep_driver.proofs.Outcomes.{bound_ok}
 
 -- ---- what a reply's log stands for
@@ -22,6 +23,7 @@ use Rattle.ep_driver.proofs.Outcomes.{bound_ok}
 settled-stands : (mode : Mode) (q : Request) (i : Instance) (status : Status) (text : List ℕ) (log : LogState) → LogsInstance q → Settles (searched_task mode q i) status text log → Stands mode i log
 unfolding searched_task Settles
 settled-stands mode (Request.One conflicts) i status text log own h = h.2.stands
+settled-stands mode (Request.Divided cubes conflicts) i status text log own h = divided-stands mode i cubes conflicts log h.0 h.2
 settled-stands mode (Request.Many most conflicts) i status text log own h = h.1.stands
 settled-stands mode (Request.Explained conflicts) i status text log own h = absurd own
 settled-stands mode (Request.Generated number conflicts) i status text log own h = h.2.stands

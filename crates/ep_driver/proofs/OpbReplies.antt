@@ -26,6 +26,7 @@ use Rattle.ep_driver.specs.Steps.{EndsBy, IsSearched, OrUnlogged, TellsShown, Te
 use Rattle.ep_driver.specs.Stops.{opb_stop}
 use Rattle.ep_driver.specs.declared.replies.Reply.{Reply}
 use Rattle.ep_driver.proofs.Refusing.{contains-first}
+use Rattle.ep_driver.proofs.Tasks.{searched}
 
 -- ---- from the bytes that were read to the file
 
@@ -117,9 +118,9 @@ shown-spent content vars conflicts log (unknown best) status e h = inr (e, (h.0,
 -- the log of an answer is sound, and shows where the conflicts were spent
 pub opb-ends : (text : List ℕ) (conflicts : ℕ) (log : LogState) (reply : OpbReply) (status : Status) → RepliesToOpb text conflicts log (Ok reply) → status ≡ spent_status reply.spent → IsSearched conflicts status log
 opb-ends text conflicts log reply status h ended =
-    let own = h.2 in (own.logged.sound, shown-spent h.0 own.logged.vars conflicts log own.found status (ended ∙ ap spent_status own.spent) own.logged.shows)
+    let own = h.2 in searched conflicts status log own.logged.sound (shown-spent h.0 own.logged.vars conflicts log own.found status (ended ∙ ap spent_status own.spent) own.logged.shows)
 
 pub opb-stop-ends : (text : List ℕ) (conflicts : ℕ) (log : LogState) (stop : OpbStop) → RepliesToOpb text conflicts log (Err stop) → ((refusal : OpbRefusal) → OpbComesTo text (Err refusal) → log ≡ empty_log) → IsSound log.events
-    → EndsBy (λ status. IsSearched conflicts status log) log (Err (opb_stop stop))
+    → EndsBy (IsSound log.events) (λ status. IsSearched conflicts status log) log (Err (opb_stop stop))
 opb-stop-ends text conflicts log (OpbStop.Refused refusal) h unlogged sound = unlogged refusal h
 opb-stop-ends text conflicts log OpbStop.Memory h unlogged sound = sound

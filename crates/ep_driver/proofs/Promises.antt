@@ -4,6 +4,7 @@ use Rattle.std.proofs.lemmas.List.{take_all}
 use Rattle.cnf_core.specs.Events.{LogState}
 use Rattle.ep_solve.specs.Right.{IsSpent, empty_log}
 use Rattle.ep_base.specs.Outside.{Held, TookPart, with_more}
+use Rattle.sat_search.specs.Logs.{IsSound}
 use Rattle.ep_print.specs.Refusals.{refusal_text}
 use Rattle.ep_print.specs.declared.refusals.Refusal.{Refusal}
 use Rattle.ep_driver.specs.Answers.{Settles}
@@ -224,17 +225,17 @@ may-be-put words told after rose status text log (unread name s t nothing kept f
     ]
 may-be-put words told after rose status text log (unwritten name s t sound wanted want logs failed) = inr (failed.0, inr (name, failed, t))
 
--- that a search is wanted, and so many steps are logged
+-- that a search is wanted, and so many steps are logged, soundly
 abbrev pub Spends : List (List ℕ) → LogState → Type 0
 Spends words log =
-    (wanted : Wanted) × (conflicts : ℕ) × Want words wanted × IsSearchFor wanted conflicts × IsSpent conflicts log.events
+    (wanted : Wanted) × (conflicts : ℕ) × Want words wanted × IsSearchFor wanted conflicts × IsSpent conflicts log.events × IsSound log.events
 
 wants-search : (words : List (List ℕ)) (wanted : Wanted) (status : Status) (log : LogState) → Want words wanted → IsEnd wanted status log → status ≡ Status.Unknown → Spends words log
-wants-search words (Wanted.Search model params mode request output) status log want ends e = elim ends.1 [ inl f ↦ let g = sym f ∙ e in absurd cc | inr f ↦ (Wanted.Search model params mode request output, conflicts_wanted request, want, refl, f.1) ]
-wants-search words (Wanted.Opb opb conflicts) status log want ends e = elim ends.1 [ inl f ↦ let g = sym f ∙ e in absurd cc | inr f ↦ (Wanted.Opb opb conflicts, conflicts, want, refl, f.1) ]
+wants-search words (Wanted.Search model params mode request output) status log want ends e = elim ends.1 [ inl f ↦ let g = sym f ∙ e in absurd cc | inr f ↦ (Wanted.Search model params mode request output, conflicts_wanted request, want, refl, f.1, f.2) ]
+wants-search words (Wanted.Opb opb conflicts) status log want ends e = elim ends.1 [ inl f ↦ let g = sym f ∙ e in absurd cc | inr f ↦ (Wanted.Opb opb conflicts, conflicts, want, refl, f.1, f.2) ]
 wants-search words (Wanted.Verify model params mode solution) status log want ends e = elim ends.1 [ inl f ↦ let g = sym f ∙ e in absurd cc | inr f ↦ let g = sym f ∙ e in absurd cc ]
 wants-search words (Wanted.Check formula proof workers) status log want ends e = elim ends.1 [ inl f ↦ let g = sym f ∙ e in absurd cc | inr f ↦ let g = sym f ∙ e in absurd cc ]
-wants-search words (Wanted.Generate number conflicts eprime param) status log want ends e = elim ends.1 [ inl f ↦ let g = sym f ∙ e in absurd cc | inr f ↦ (Wanted.Generate number conflicts eprime param, conflicts, want, refl, f.1) ]
+wants-search words (Wanted.Generate number conflicts eprime param) status log want ends e = elim ends.1 [ inl f ↦ let g = sym f ∙ e in absurd cc | inr f ↦ (Wanted.Generate number conflicts eprime param, conflicts, want, refl, f.1, f.2) ]
 
 -- the budget is spent where a search goes on
 pub when-unknown : (words : List (List ℕ)) (told after : Option Held) (rose : Type 0) (status : Status) (text : List ℕ) (log : LogState) → Case words told after rose status text log → status ≡ Status.Unknown → Spends words log

@@ -28,8 +28,10 @@ use Rattle.ep_driver.specs.Outcomes.{Outcome, Task, and_then, as_outcome, bind_r
 use Rattle.ep_files.specs.Status.{status_of}
 use Rattle.ep_said.specs.Judgements.{wrong_shape_text}
 use Rattle.ep_said.specs.Verdicts.{verdict_text}
-use Rattle.ep_driver.specs.Steps.{EndsAs, EndsBy, IsAmong, IsEnd, IsJudged, IsJudgedEnd, LogsTask, Passes, SaysOfRun, Tells, TellsReply, TellsRun, TellsShape, TellsTask, shape_outcome}
+use Rattle.ep_driver.specs.Steps.{EndsAs, EndsBy, IsAmong, IsEnd, IsJudged, IsJudgedEnd, IsSearchedFor, LogsTask, Passes, SaysOfRun, Tells, TellsReply, TellsRun, TellsShape, TellsTask, shape_outcome}
+use Rattle.ep_driver.specs.Searches.{HasSoundSteps, LogsSoundly}
 use Rattle.ep_driver.specs.Stops.{bind_stop}
+use Rattle.sat_search.specs.Logs.{IsSound}
 use Rattle.ep_driver.specs.declared.replies.Reply.{Reply}
 use Rattle.ep_files.specs.declared.status.Status.{Status}
 use Rattle.ep_files.specs.declared.stops.Stop.{Stop}
@@ -37,7 +39,7 @@ use Rattle.ep_driver.specs.declared.wanted.Request.{Request}
 use Rattle.ep_driver.specs.declared.wanted.Wanted.{Wanted}
 use Rattle.ep_driver.proofs.Binding.{bind-stopped}
 use Rattle.ep_driver.specs.Puts.{HoldOnWant}
-use Rattle.ep_driver.proofs.Saying.{holds-refused, holds-wanting, nothing-logs, nothing-sound, refused-asked, said-refusal, wanting-asked}
+use Rattle.ep_driver.proofs.Saying.{holds-refused, holds-wanting, nothing-logs, nothing-sound, nothing-soundly, nothing-steps, refused-asked, said-refusal, wanting-asked}
 use Rattle.ep_driver.proofs.Tasks.{AreAllFaultless, AreFaultless, bound-refused, is-judge, is-search, is-verify, limits-refused, shape-refused, search-instance, search-model, search-params, judge-ends, verify-instance, verify-model, verify-params, verify-solution}
 
 -- ---- words
@@ -223,15 +225,21 @@ reply-ends mode m p s (Err stop) h = tt
 -- ---- ends
 
 -- nothing was logged where a step before the search stops
-pub stopped-ends : (End : Status → Type 0) (log : LogState) (stop : Stop) → log ≡ empty_log → EndsBy End log (Err stop)
-stopped-ends End log (Stop.Refused r) h = h
-stopped-ends End log Stop.Memory h = nothing-sound log h
+stopped-with : (S : Type 0) (End : Status → Type 0) (log : LogState) (stop : Stop) → log ≡ empty_log → S → EndsBy S End log (Err stop)
+stopped-with S End log (Stop.Refused r) h s = h
+stopped-with S End log Stop.Memory h s = s
+
+pub stopped-ends : (End : Status → Type 0) (log : LogState) (stop : Stop) → log ≡ empty_log → EndsBy (IsSound log.events) End log (Err stop)
+stopped-ends End log stop h = stopped-with (IsSound log.events) End log stop h (nothing-sound log h)
+
+pub stopped-search : (q : Request) (log : LogState) (stop : Stop) → log ≡ empty_log → EndsBy (HasSoundSteps q log.events) (λ status. IsSearchedFor q status log) log (Err stop)
+stopped-search q log stop h = stopped-with (HasSoundSteps q log.events) (λ status. IsSearchedFor q status log) log stop h (nothing-steps q log h)
 
 pub stopped-as : (wanted : Wanted) (log : LogState) (stop : Stop) → log ≡ empty_log → EndsAs wanted log (Err stop)
-stopped-as wanted log stop h = (nothing-logs wanted log h, stopped-ends (λ status. IsEnd wanted status log) log stop h)
+stopped-as wanted log stop h = (nothing-logs wanted log h, stopped-with (LogsSoundly wanted log.events) (λ status. IsEnd wanted status log) log stop h (nothing-soundly wanted log h))
 
 -- a judgement ends so, whatever refuses it, with nothing logged
-judged-ends : (log : LogState) (result : Result Reply Stop) → log ≡ empty_log → IfOk result (λ reply. IsJudgedEnd reply.status empty_log) → EndsBy (λ status. IsJudgedEnd status log) log result
+judged-ends : (log : LogState) (result : Result Reply Stop) → log ≡ empty_log → IfOk result (λ reply. IsJudgedEnd reply.status empty_log) → EndsBy (IsSound log.events) (λ status. IsJudgedEnd status log) log result
 judged-ends log (Ok reply) nothing h = (nothing, h.1)
 judged-ends log (Err (Stop.Refused r)) nothing h = nothing
 judged-ends log (Err Stop.Memory) nothing h = nothing-sound log nothing

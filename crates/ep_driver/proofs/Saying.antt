@@ -1,6 +1,7 @@
 -- From what is said to the words to what a run promises.
 use Rattle.std.proofs.Common.{◌≡◌, ℕ, ◌⊎◌, List, [], ◌∷◌, Option, Some, None, Ok, Err, Result, IfSome, IsSomeAnd, inl, inr, refl, sym, ap, subst, ◌∙◌}
-use Rattle.cnf_core.specs.Events.{LogState}
+use Rattle.cnf_core.specs.Events.{LogEvent, LogState}
+use Rattle.cnf_core.specs.Steps.{IsValidLog, NonEmptyStepsAreNew}
 use Rattle.ep_base.specs.Outside.{Held}
 use Rattle.ep_print.specs.Refusals.{refusal_text}
 use Rattle.ep_print.specs.declared.refusals.Refusal.{Refusal}
@@ -12,14 +13,16 @@ use Rattle.ep_driver.specs.Outcomes.{Task}
 use Rattle.ep_outputs.specs.Outputs.{AreWritten, ArePartlyWritten, FailsAt, Output}
 use Rattle.ep_driver.specs.Outputs.{written_for}
 use Rattle.ep_driver.specs.Puts.{HoldOnWant, IsAnsweredBy, IsFailedRead, IsFailedWrite, read_line, write_line}
+use Rattle.ep_driver.specs.Searches.{AskForCubes, HasSoundSteps, LogsSoundly}
 use Rattle.ep_driver.specs.Shown.{Ask, ComesTo, Refuse}
 use Rattle.ep_files.specs.Status.{status_of}
-use Rattle.ep_driver.specs.Steps.{EndsAs, HasAnswer, IsAnswer, IsEnd, IsFailed, IsFaulty, IsLogOf, IsRefused, IsShown, IsUnwritten, LogsTask, SaysOfRun, TellsRun, TellsTask, TellsWanted}
+use Rattle.ep_driver.specs.Steps.{EndsAs, HasAnswer, IsAnswer, IsEnd, IsFailed, IsFaulty, IsLogOf, IsRefused, IsShown, IsSoundRun, IsUnwritten, LogsTask, SaysOfRun, TellsRun, TellsTask, TellsWanted}
 use Rattle.ep_files.specs.Reads.{IsOfText}
 use Rattle.ep_outputs.specs.Writes.{TellsWritten}
 use Rattle.ep_driver.specs.declared.replies.Reply.{Reply}
 use Rattle.ep_files.specs.declared.status.Status.{Status}
 use Rattle.ep_files.specs.declared.stops.Stop.{Stop}
+use Rattle.ep_driver.specs.declared.wanted.Request.{Request}
 use Rattle.ep_driver.specs.declared.wanted.Wanted.{Wanted}
 use Rattle.ep_driver.proofs.Refusing.{contains-first}
 
@@ -31,7 +34,44 @@ nothing-sound log e =
     let P : LogState → Type 0 = λ l. IsSound l.events in
     subst P (sym e) (record { valid = tt; new = tt; effective = tt })
 
-pub end-sound : (wanted : Wanted) (status : Status) (log : LogState) → IsEnd wanted status log → IsSound log.events
+-- nor of those of what is requested
+pub nothing-steps : (q : Request) (log : LogState) → log ≡ empty_log → HasSoundSteps q log.events
+nothing-steps (Request.One conflicts) log e = nothing-sound log e
+nothing-steps (Request.Divided cubes conflicts) log e = let s = nothing-sound log e in (s.valid, s.new)
+nothing-steps (Request.Many most conflicts) log e = nothing-sound log e
+nothing-steps (Request.Explained conflicts) log e = nothing-sound log e
+nothing-steps (Request.Generated number conflicts) log e = nothing-sound log e
+
+pub nothing-soundly : (wanted : Wanted) (log : LogState) → log ≡ empty_log → LogsSoundly wanted log.events
+nothing-soundly (Wanted.Search _ _ _ q _) log e = nothing-steps q log e
+nothing-soundly (Wanted.Opb _ _) log e = nothing-sound log e
+nothing-soundly (Wanted.Verify _ _ _ _) log e = nothing-sound log e
+nothing-soundly (Wanted.Check _ _ _) log e = nothing-sound log e
+nothing-soundly (Wanted.Generate _ _ _ _) log e = nothing-sound log e
+
+-- what is logged soundly for what words want is so for the words
+pub sound-run : (words : List (List ℕ)) (wanted : Wanted) (log : LogState) → Want words wanted → LogsSoundly wanted log.events → IsSoundRun words log.events
+sound-run words (Wanted.Search m p u (Request.One n) o) log want h = inl h
+sound-run words (Wanted.Search m p u (Request.Divided k n) o) log want h = inr ((Wanted.Search m p u (Request.Divided k n) o, want, tt), h.0, h.1)
+sound-run words (Wanted.Search m p u (Request.Many most n) o) log want h = inl h
+sound-run words (Wanted.Search m p u (Request.Explained n) o) log want h = inl h
+sound-run words (Wanted.Search m p u (Request.Generated number n) o) log want h = inl h
+sound-run words (Wanted.Opb _ _) log want h = inl h
+sound-run words (Wanted.Verify _ _ _ _) log want h = inl h
+sound-run words (Wanted.Check _ _ _) log want h = inl h
+sound-run words (Wanted.Generate _ _ _ _) log want h = inl h
+
+pub run-valid : (words : List (List ℕ)) (events : List LogEvent) → IsSoundRun words events → IsValidLog events
+run-valid words events h = elim h [ inl sound ↦ sound.valid | inr cubes ↦ cubes.1 ]
+
+pub run-new : (words : List (List ℕ)) (events : List LogEvent) → IsSoundRun words events → NonEmptyStepsAreNew events
+run-new words events h = elim h [ inl sound ↦ sound.new | inr cubes ↦ cubes.2 ]
+
+-- where the words don't ask for cubes, the steps are sound
+pub run-effective : (words : List (List ℕ)) (events : List LogEvent) → IsSoundRun words events → (AskForCubes words → ⊥) → IsSound events
+run-effective words events h none = elim h [ inl sound ↦ sound | inr cubes ↦ absurd (none cubes.0) ]
+
+pub end-sound : (wanted : Wanted) (status : Status) (log : LogState) → IsEnd wanted status log → LogsSoundly wanted log.events
 end-sound (Wanted.Search _ _ _ _ _) status log h = h.0
 end-sound (Wanted.Opb _ _) status log h = h.0
 end-sound (Wanted.Verify _ _ _ _) status log h = nothing-sound log h.0
@@ -57,14 +97,14 @@ nothing-logs (Wanted.Generate _ _ _ _) log e = tt
 -- the words are no command, or memory is wanting
 pub unread-words : (words : List (List ℕ)) (told : Option Held) (rose : Type 0) (log : LogState) (stop : Stop) → log ≡ empty_log → TellsWanted words (Err stop) → TellsRun words told told rose log (Err stop)
 unread-words words told rose log (Stop.Refused r) nothing h = inl (h.0, nothing, refl, h.1)
-unread-words words told rose log Stop.Memory nothing h = (nothing-sound log nothing, inl refl, inl nothing)
+unread-words words told rose log Stop.Memory nothing h = (inl (nothing-sound log nothing), inl refl, inl nothing)
 
 -- what is wanted is refused, or memory is wanting
 pub refused-run : (words : List (List ℕ)) (wanted : Wanted) (told after : Option Held) (rose : Type 0) (log : LogState) (stop : Stop) → Want words wanted → after ≡ told → EndsAs wanted log (Err stop)
     → TellsTask (files_of wanted) (ComesTo wanted) told rose log (Err stop) → TellsRun words told after rose log (Err stop)
 refused-run words wanted told after rose log (Stop.Refused r) want kept ends h = inr (wanted, want, inl (ends.1, kept, h))
 refused-run words wanted told after rose log Stop.Memory want kept ends h =
-    (ends.1, inl kept, elim h [ inl nothing ↦ inl nothing | inr asked ↦ inr (wanted, want, ends.0, asked) ])
+    (sound-run words wanted log want ends.1, inl kept, elim h [ inl nothing ↦ inl nothing | inr asked ↦ inr (wanted, want, ends.0, asked) ])
 
 asked-of : (wanted : Wanted) (told : Option Held) (status : Status) (text : List ℕ) (log : LogState) → IsAnswer (ComesTo wanted) told status text log → IfSome told (λ held. (task : Task) × ComesTo wanted held (Ok task))
 asked-of wanted None status text log h = tt
@@ -99,7 +139,7 @@ unwritten-run V words wanted outputs told between after rose rose-now status tex
 unwritten-run V words wanted outputs told between after rose rose-now status text log Stop.Memory want named kept rises ends shown h =
     let F : List Output → Type 0 = λ o. ArePartlyWritten log text o between after in
     let partly : ArePartlyWritten log text (written_for wanted) between after = subst F named h in (
-      end-sound wanted status log ends,
+      sound-run words wanted log want (end-sound wanted status log ends),
       inr (wanted, want, (text, subst (λ (t : Option Held). ArePartlyWritten log text (written_for wanted) t after) kept partly, has-answer wanted told status text log shown)),
       inr (wanted, want, end-logs wanted status log ends, asked-of wanted told status text log shown),
     )
@@ -114,13 +154,13 @@ answered-run V words wanted outputs told between after rose rose-now log reply x
     let written : AreWritten log text (written_for wanted) between after = subst W named h in
     (wanted, want, (ends, shown, subst (λ (t : Option Held). AreWritten log text (written_for wanted) t after) kept written))
 
-refused-sound : (wanted : Wanted) (told after : Option Held) (rose : Type 0) (log : LogState) (r : Refusal) → IsRefused wanted told after rose log r → IsSound log.events
-refused-sound wanted told after rose log r h = elim h [ inl shown ↦ nothing-sound log shown.0 | inr unwritten ↦ unwritten.5 ]
+refused-sound : (words : List (List ℕ)) (wanted : Wanted) (told after : Option Held) (rose : Type 0) (log : LogState) (r : Refusal) → Want words wanted → IsRefused wanted told after rose log r → IsSoundRun words log.events
+refused-sound words wanted told after rose log r want h = elim h [ inl shown ↦ inl (nothing-sound log shown.0) | inr unwritten ↦ sound-run words wanted log want unwritten.5 ]
 
 -- whatever a run tells, each step of its log is sound
-pub run-sound : (words : List (List ℕ)) (told after : Option Held) (rose : Type 0) (log : LogState) (result : Result Reply Stop) → TellsRun words told after rose log result → IsSound log.events
-run-sound words told after rose log (Ok reply) h = end-sound h.0 reply.status log h.2.0
-run-sound words told after rose log (Err (Stop.Refused r)) h = elim h [ inl none ↦ nothing-sound log none.1 | inr some ↦ refused-sound some.0 told after rose log r some.2 ]
+pub run-sound : (words : List (List ℕ)) (told after : Option Held) (rose : Type 0) (log : LogState) (result : Result Reply Stop) → TellsRun words told after rose log result → IsSoundRun words log.events
+run-sound words told after rose log (Ok reply) h = sound-run words h.0 log h.1 (end-sound h.0 reply.status log h.2.0)
+run-sound words told after rose log (Err (Stop.Refused r)) h = elim h [ inl none ↦ inl (nothing-sound log none.1) | inr some ↦ refused-sound words some.0 told after rose log r some.1 some.2 ]
 run-sound words told after rose log (Err Stop.Memory) h = h.0
 
 pub said-answer : (words : List (List ℕ)) (told after : Option Held) (rose : Type 0) (log : LogState) (reply : Reply) → TellsRun words told after rose log (Ok reply) → SaysOfRun words told after rose reply.status reply.text.items log
@@ -224,7 +264,7 @@ pub data Case (words : List (List ℕ)) (told after : Option Held) (rose : Type 
   answer : (wanted : Wanted) → Want words wanted → IsEnd wanted status log → IfSome told (λ held. (task : Task) × Ask words held task × Settles task status text log) → AreWritten log text (written_for wanted) told after → Case words told after rose status text log
   faulty : (wanted : Wanted) → Want words wanted → (r : Refusal) → status ≡ status_of r → text ≡ refusal_text r → log ≡ empty_log → after ≡ told → IsOfText r → IfSome told (λ held. Refuse words held r) → Case words told after rose status text log
   unread : (name : List ℕ) → status ≡ Status.Device → text ≡ read_line name → log ≡ empty_log → after ≡ told → IsFailedRead words told name → rose ⊎ IsSomeAnd told (λ held. Refuse words held (Refusal.CannotRead name)) → Case words told after rose status text log
-  unwritten : (name : List ℕ) → status ≡ Status.Device → text ≡ write_line name → IsSound log.events → (wanted : Wanted) → Want words wanted → IsLogOf wanted log → IsFailedWrite words told after rose log name → Case words told after rose status text log
+  unwritten : (name : List ℕ) → status ≡ Status.Device → text ≡ write_line name → IsSoundRun words log.events → (wanted : Wanted) → Want words wanted → IsLogOf wanted log → IsFailedWrite words told after rose log name → Case words told after rose status text log
 
 shown-case : (words : List (List ℕ)) (wanted : Wanted) (told after : Option Held) (rose : Type 0) (r : Refusal) (status : Status) (text : List ℕ) (log : LogState) → Want words wanted → status ≡ status_of r → text ≡ refusal_text r
     → IsShown wanted told after rose log r → Case words told after rose status text log
@@ -247,7 +287,7 @@ unwritten-case : (words : List (List ℕ)) (wanted : Wanted) (told after : Optio
     → IsUnwritten wanted told after rose log r → Case words told after rose status text log
 unfolding status_of
 unwritten-case words wanted told after rose r status text log want s t h =
-    unwritten h.1 (s ∙ ap status_of h.3) (t ∙ ap refusal_text h.3) h.5 wanted want h.6 (failed-write words wanted told after rose log r want h)
+    unwritten h.1 (s ∙ ap status_of h.3) (t ∙ ap refusal_text h.3) (sound-run words wanted log want h.5) wanted want h.6 (failed-write words wanted told after rose log r want h)
 
 pub case-of : (words : List (List ℕ)) (told after : Option Held) (rose : Type 0) (status : Status) (text : List ℕ) (log : LogState) → SaysOfRun words told after rose status text log → Case words told after rose status text log
 case-of words told after rose status text log h =

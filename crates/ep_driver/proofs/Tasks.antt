@@ -14,6 +14,7 @@ use Rattle.ep_print.specs.Listings.{EndTree, ListingTree, complete, listing_text
 use Rattle.ep_solve.specs.Listed.{EndsRightly, Lists}
 use Rattle.ep_solve.specs.Logged.{IsLogged, ShowsAnswer}
 use Rattle.ep_solve.specs.Right.{IsRight, IsSpent}
+use Rattle.sat_search.specs.Logs.{IsSound}
 use Rattle.ep_driver.specs.Answers.{Settles, answer_status, judgement_status, listing_status}
 use Rattle.ep_driver.specs.Outcomes.{and_then, bind_refusals, bound_outcome, fault_refusals, instance_of, judge_outcome, search_outcome, searched_task, to_generate, to_judge, to_list, to_solve, verify_outcome}
 use Rattle.ep_driver.specs.Steps.{IsAmong, IsSearched, shape_outcome}
@@ -143,9 +144,13 @@ shown-spent mode i conflicts log no_solution status e h = inl e
 shown-spent mode i conflicts log (unknown _) status e h = inr (e, h.0)
 shown-spent mode i conflicts log (unknown_with _ _ _) status e h = inr (e, h.0)
 
+-- a sound log of a search that has its answer, or of which the budget was spent
+pub searched : (conflicts : ℕ) (status : Status) (log : LogState) → IsSound log.events → (status ≡ Status.Answered) ⊎ ((status ≡ Status.Unknown) × IsSpent conflicts log.events) → IsSearched conflicts status log
+searched conflicts status log sound h = (sound, elim h [ inl e ↦ inl e | inr e ↦ inr (e.0, e.1, sound) ])
+
 -- the log of an answer is sound, and shows where the budget was spent
 pub answer-ends : (mode : Mode) (i : Instance) (conflicts : ℕ) (log : LogState) (a : AnswerTree) (status : Status) → status ≡ answer_status a → IsLogged mode i conflicts log a → IsSearched conflicts status log
-answer-ends mode i conflicts log a status e h = (h.sound, shown-spent mode i conflicts log a status e h.shows)
+answer-ends mode i conflicts log a status e h = searched conflicts status log h.sound (shown-spent mode i conflicts log a status e h.shows)
 
 list-spent : (mode : Mode) (i : Instance) (conflicts most : ℕ) (log : LogState) (listed : List Assigned) (end : EndTree) (status : Status) → status ≡ listing_status end → EndsRightly mode i conflicts most log listed end
     → (status ≡ Status.Answered) ⊎ ((status ≡ Status.Unknown) × IsSpent conflicts log.events)
@@ -156,7 +161,7 @@ list-spent mode i conflicts most log listed (spent n) status e h = inr (e, h.2)
 
 -- the log of a list is sound, and shows where the budget was spent
 pub list-ends : (mode : Mode) (i : Instance) (conflicts most : ℕ) (log : LogState) (listing : ListingTree) (status : Status) → status ≡ listing_status listing.ending → Lists mode i conflicts most log listing → IsSearched conflicts status log
-list-ends mode i conflicts most log listing status e h = (h.sound, list-spent mode i conflicts most log listing.found listing.ending status e h.ends)
+list-ends mode i conflicts most log listing status e h = searched conflicts status log h.sound (list-spent mode i conflicts most log listing.found listing.ending status e h.ends)
 
 -- ---- what answers a search
 

@@ -14,7 +14,7 @@ use Rattle.ep_tree.specs.Types.{from_one, judge, named_type}
 use Rattle.ep_words.specs.declared.job.Job.{Job}
 use Rattle.log_check.specs.declared.Verdict.TheVariants.{BadStep, NoEmptyClause, Verified}
 use Rattle.ep_driver.specs.Answers.{judgement_status, listing_status, verdict_status}
-use Rattle.ep_driver.specs.Commands.{no_outputs, wanted_of}
+use Rattle.ep_driver.specs.Commands.{no_outputs, one_within, wanted_of}
 use Rattle.ep_outputs.specs.Outputs.{a_formula, an_answer, named as named_files, steps}
 use Rattle.ep_driver.specs.Outputs.{outputs_in_order}
 use Rattle.ep_driver.specs.Outcomes.{fault_refusal, search_outcome, unless_refused, verify_outcome}
@@ -30,20 +30,24 @@ m = codes "m"
 abbrev s : List ℕ
 s = codes "s"
 
-solve-runs : wanted_of (Job.Solve m None 7 None None None Mode.Strict) ≡ Wanted.Search m None Mode.Strict (Request.One 7) no_outputs
-unfolding wanted_of
+solve-runs : wanted_of (Job.Solve m None 7 None None None Mode.Strict None) ≡ Wanted.Search m None Mode.Strict (Request.One 7) no_outputs
+unfolding one_within wanted_of
 solve-runs = refl
 
-answers-are-written : wanted_of (Job.Solve m None 7 (Some s) None None Mode.Relational) ≡ Wanted.Search m None Mode.Relational (Request.One 7) (record { formula = None; log = None; solution = Some s })
-unfolding wanted_of
+answers-are-written : wanted_of (Job.Solve m None 7 (Some s) None None Mode.Relational None) ≡ Wanted.Search m None Mode.Relational (Request.One 7) (record { formula = None; log = None; solution = Some s })
+unfolding one_within wanted_of
 answers-are-written = refl
+
+cubes-run : wanted_of (Job.Solve m None 7 None None None Mode.Strict (Some 3)) ≡ Wanted.Search m None Mode.Strict (Request.Divided 3 7) no_outputs
+unfolding one_within wanted_of
+cubes-run = refl
 
 enumerate-runs : wanted_of (Job.Enumerate m (Some s) 10 7 None None None Mode.Strict) ≡ Wanted.Search m (Some s) Mode.Strict (Request.Many 10 7) no_outputs
 unfolding wanted_of
 enumerate-runs = refl
 
-formulas-are-written : wanted_of (Job.Solve m None 7 None (Some s) (Some m) Mode.Relational) ≡ Wanted.Search m None Mode.Relational (Request.One 7) (record { formula = Some s; log = Some m; solution = None })
-unfolding wanted_of
+formulas-are-written : wanted_of (Job.Solve m None 7 None (Some s) (Some m) Mode.Relational None) ≡ Wanted.Search m None Mode.Relational (Request.One 7) (record { formula = Some s; log = Some m; solution = None })
+unfolding one_within wanted_of
 formulas-are-written = refl
 
 -- the formula is written first, and the answer last

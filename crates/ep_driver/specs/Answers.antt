@@ -10,6 +10,7 @@ use Rattle.cnf_core.specs.Events.{LogState}
 use Rattle.log_check.specs.Verdict.{verdict_of}
 use Rattle.log_check.specs.declared.Verdict.{Verdict}
 use Rattle.log_check.specs.declared.Verdict.TheVariants.{BadStep, NoEmptyClause, Verified}
+use Rattle.ep_divided.specs.Divided.{IsLoggedInCubes}
 use Rattle.ep_explain.specs.Tried.{IsRightExplanation, ends_spent}
 use Rattle.ep_explain.specs.declared.explaining.Explained.{Explained}
 use Rattle.ep_explain_text.specs.ExplanationTexts.{explanation_text}
@@ -21,7 +22,7 @@ use Rattle.opb_answer.specs.Lines.{answer_lines}
 use Rattle.opb_answer.specs.Right.{IsRightOpb}
 use Rattle.opb_solve.specs.Logged.{IsOpbLogged}
 use Rattle.opb_solve.specs.Replies.{is_spent}
-use Rattle.ep_driver.specs.Outcomes.{Task, to_check, to_explain, to_generate, to_judge, to_list, to_solve, to_solve_opb}
+use Rattle.ep_driver.specs.Outcomes.{Task, to_check, to_divide, to_explain, to_generate, to_judge, to_list, to_solve, to_solve_opb}
 use Rattle.ep_files.specs.declared.status.Status.{Status}
 use Rattle.ep_said.specs.Judgements.{judgement_text, wrong_shape_text}
 use Rattle.ep_said.specs.Summaries.{summary_text}
@@ -73,6 +74,9 @@ SettlesBy text_of mode i conflicts status text log =
 -- a status, a text and a log answer a task
 unfoldable pub Settles : Task → Status → List ℕ → LogState → Type 0
 Settles (to_solve mode i conflicts) status text log = SettlesBy answer_text mode i conflicts status text log
+Settles (to_divide mode i cubes conflicts) status text log =
+    (answer : AnswerTree) × IsRight mode i conflicts answer × IsLoggedInCubes mode i cubes conflicts log answer
+    × (status ≡ answer_status answer) × (text ≡ answer_text answer)
 Settles (to_list mode i most conflicts) status text log =
     (listing : ListingTree) × Lists mode i conflicts most log listing
     × (status ≡ listing_status listing.ending) × (text ≡ listing_text listing)

@@ -1,5 +1,5 @@
 -- What the words of a command want of a run.
-use Rattle.std.specs.Prelude.{◌≡◌, ℕ, List, [], ◌∷◌, ◌++◌, None, option_to_list}
+use Rattle.std.specs.Prelude.{◌≡◌, ℕ, List, [], ◌∷◌, ◌++◌, Option, None, Some, option_to_list}
 use Rattle.ep_words.specs.Commands.{IsCommand}
 use Rattle.ep_words.specs.declared.job.Job.{Job}
 use Rattle.ep_driver.specs.declared.wanted.Outputs.{Outputs}
@@ -10,13 +10,18 @@ use Rattle.ep_driver.specs.declared.wanted.Wanted.{Wanted}
 abbrev pub no_outputs : Outputs
 no_outputs = record { formula = None; log = None; solution = None }
 
+-- a request for one solution, by cubes where it is said over how many variables
+unfoldable pub one_within : ℕ → Option ℕ → Request
+one_within conflicts None = Request.One conflicts
+one_within conflicts (Some cubes) = Request.Divided cubes conflicts
+
 -- What a job wants of a run: to search for one solution of a model or for many, and to write the formula, the steps of the log and
 -- the answer into files where they are named; or to explain why there is none; or to verify a solution; each in a mode of
 -- undefinedness; or to solve a pseudo-Boolean problem; or to check a proof of a formula, by so many workers; or to solve the texts of a
 -- number, and to write them where files are named.
 unfoldable pub wanted_of : Job → Wanted
-wanted_of (Job.Solve model params conflicts solution formula log mode) =
-    Wanted.Search model params mode (Request.One conflicts) (record { formula = formula; log = log; solution = solution })
+wanted_of (Job.Solve model params conflicts solution formula log mode cubes) =
+    Wanted.Search model params mode (one_within conflicts cubes) (record { formula = formula; log = log; solution = solution })
 wanted_of (Job.Enumerate model params solutions conflicts solution formula log mode) =
     Wanted.Search model params mode (Request.Many solutions conflicts) (record { formula = formula; log = log; solution = solution })
 wanted_of (Job.Explain model params conflicts mode) = Wanted.Search model params mode (Request.Explained conflicts) no_outputs
@@ -52,6 +57,7 @@ IsJudgement (Wanted.Generate number conflicts eprime param) = ⊥
 -- how many conflicts a search may take
 unfoldable pub conflicts_wanted : Request → ℕ
 conflicts_wanted (Request.One conflicts) = conflicts
+conflicts_wanted (Request.Divided cubes conflicts) = conflicts
 conflicts_wanted (Request.Many most conflicts) = conflicts
 conflicts_wanted (Request.Explained conflicts) = conflicts
 conflicts_wanted (Request.Generated number conflicts) = conflicts

@@ -80,12 +80,13 @@ instance_of mode model params =
     and_then (bound_outcome mode model params) (λ i.
     unless_refused (bind_refusals (instance_limits mode i)) (Ok i))
 
--- a task with what it needs, in a mode of undefinedness: an instance to solve within so many conflicts; one of which at most so many
--- solutions are to be listed within so many conflicts; one to explain, each attempt within so many conflicts; or one with what a solution
+-- a task with what it needs, in a mode of undefinedness: an instance to solve within so many conflicts; one to solve by cubes over at most
+-- so many variables, each within so many conflicts; one of which at most so many solutions are to be listed within so many conflicts; one to explain, each attempt within so many conflicts; or one with what a solution
 -- text gives it; or a pseudo-Boolean problem, to solve within so many conflicts; or the clauses of a formula with the lines of a proof
 -- that is to be checked; or the instance of a number's texts, to solve within so many conflicts and to sum up
 pub data Task : Type 0 where
   to_solve : Mode → Instance → ℕ → Task
+  to_divide : Mode → Instance → ℕ → ℕ → Task
   to_list : Mode → Instance → ℕ → ℕ → Task
   to_explain : Mode → Instance → ℕ → Task
   to_judge : Mode → Instance → Shaped → Task
@@ -96,6 +97,7 @@ pub data Task : Type 0 where
 -- the task of a search in an instance
 unfoldable pub searched_task : Mode → Request → Instance → Task
 searched_task mode (Request.One conflicts) i = to_solve mode i conflicts
+searched_task mode (Request.Divided cubes conflicts) i = to_divide mode i cubes conflicts
 searched_task mode (Request.Many most conflicts) i = to_list mode i most conflicts
 searched_task mode (Request.Explained conflicts) i = to_explain mode i conflicts
 searched_task mode (Request.Generated number conflicts) i = to_generate number mode i conflicts

@@ -50,6 +50,9 @@ unfoldable pub IsPromised : Held → Wanted → Status → List ℕ → Type 0
 IsPromised held (Wanted.Search model params mode (Request.One conflicts) outputs) status text =
     (i : Instance) × FilesMake held mode model params i
     × (answer : AnswerTree) × IsTrueOf mode i answer × (status ≡ answer_status answer) × (text ≡ answer_text answer)
+IsPromised held (Wanted.Search model params mode (Request.Divided cubes conflicts) outputs) status text =
+    (i : Instance) × FilesMake held mode model params i
+    × (answer : AnswerTree) × IsTrueOf mode i answer × (status ≡ answer_status answer) × (text ≡ answer_text answer)
 IsPromised held (Wanted.Search model params mode (Request.Many most conflicts) outputs) status text =
     (i : Instance) × FilesMake held mode model params i
     × (listing : ListingTree) × AreTrueOf mode i listing × (status ≡ listing_status listing.ending)

@@ -1,6 +1,7 @@
 -- What the steps of a run tell.
 use Rattle.std.specs.Prelude.{◌≡◌, ◌⊎◌, ℕ, List, [], ◌∷◌, Option, Ok, Err, Result, Contains, IfSome, IsSomeAnd}
-use Rattle.cnf_core.specs.Events.{LogState}
+use Rattle.cnf_core.specs.Events.{LogEvent, LogState}
+use Rattle.cnf_core.specs.Steps.{IsValidLog, NonEmptyStepsAreNew}
 use Rattle.ep_base.specs.Outside.{Held}
 use Rattle.ep_tree.specs.Statements.{TextTree}
 use Rattle.ep_tree.specs.Views.{assigned}
@@ -18,12 +19,14 @@ use Rattle.ep_driver.specs.Commands.{AreNoCommand, Want, conflicts_wanted, files
 use Rattle.ep_driver.specs.Outcomes.{Outcome, Task, as_outcome}
 use Rattle.ep_outputs.specs.Outputs.{AreWritten, ArePartlyWritten, FailsAt}
 use Rattle.ep_driver.specs.Outputs.{written_for}
+use Rattle.ep_driver.specs.Searches.{AskForCubes, HasSoundSteps, LogsSoundly}
 use Rattle.ep_files.specs.Readings.{without}
 use Rattle.ep_driver.specs.Shown.{Ask, ComesTo, comes_to_generate}
 use Rattle.ep_files.specs.Status.{status_of}
 use Rattle.ep_driver.specs.declared.replies.Reply.{Reply}
 use Rattle.ep_files.specs.declared.status.Status.{Status}
 use Rattle.ep_files.specs.declared.stops.Stop.{Stop}
+use Rattle.ep_driver.specs.declared.wanted.Request.{Request}
 use Rattle.ep_driver.specs.declared.wanted.Wanted.{Wanted}
 use Rattle.ep_files.specs.Reads.{IsOfText}
 use Rattle.ep_said.specs.Judgements.{judgement_text}
@@ -138,11 +141,19 @@ TellsTask names shows told rose log (Err (Stop.Refused refusal)) =
     IsFailed names shows told rose refusal ⊎ IsFaulty shows told refusal
 TellsTask names shows told rose log (Err Stop.Memory) = OrUnlogged log (IfSome told (λ held. (task : Task) × shows held (Ok task)))
 
--- How a search within so many conflicts may end: with its answer, or with as many steps in the log. The steps of the log are
--- valid, and those with a literal new and effective.
+-- How a search within so many conflicts may end: with its answer, or with as many steps in the log. Then the steps of the log are
+-- valid, and those with a literal new and effective; and in any case they are as is said first.
+abbrev pub IsSearchedWith : Type 0 → ℕ → Status → LogState → Type 0
+IsSearchedWith steps conflicts status log =
+    steps × ((status ≡ Status.Answered) ⊎ ((status ≡ Status.Unknown) × IsSpent conflicts log.events × IsSound log.events))
+
+-- the steps are sound in any case
 abbrev pub IsSearched : ℕ → Status → LogState → Type 0
-IsSearched conflicts status log =
-    IsSound log.events × ((status ≡ Status.Answered) ⊎ ((status ≡ Status.Unknown) × IsSpent conflicts log.events))
+IsSearched conflicts status log = IsSearchedWith (IsSound log.events) conflicts status log
+
+-- how a search for what is requested may end
+abbrev pub IsSearchedFor : Request → Status → LogState → Type 0
+IsSearchedFor request status log = IsSearchedWith (HasSoundSteps request log.events) (conflicts_wanted request) status log
 
 -- how a judgement may end: what is judged holds or doesn't, and nothing is logged
 abbrev pub IsJudgedEnd : Status → LogState → Type 0
@@ -150,7 +161,7 @@ IsJudgedEnd status log = (log ≡ empty_log) × ((status ≡ Status.Answered) �
 
 -- how a run may end that has its answer, and with which log
 abbrev pub IsEnd : Wanted → Status → LogState → Type 0
-IsEnd (Wanted.Search _ _ _ request _) status log = IsSearched (conflicts_wanted request) status log
+IsEnd (Wanted.Search _ _ _ request _) status log = IsSearchedFor request status log
 IsEnd (Wanted.Opb _ conflicts) status log = IsSearched conflicts status log
 IsEnd (Wanted.Verify _ _ _ _) status log = IsJudgedEnd status log
 IsEnd (Wanted.Check _ _ _) status log = IsJudgedEnd status log
@@ -164,15 +175,15 @@ IsLogOf (Wanted.Verify _ _ _ _) log = log ≡ empty_log
 IsLogOf (Wanted.Check _ _ _) log = log ≡ empty_log
 IsLogOf (Wanted.Generate _ _ _ _) log = Unit {0}
 
--- an answer ends so; nothing is logged where there is a refusal, and soundly where memory is wanting
-abbrev pub EndsBy : (Status → Type 0) → LogState → Result Reply Stop → Type 0
-EndsBy End log (Ok reply) = End reply.status
-EndsBy End log (Err (Stop.Refused refusal)) = log ≡ empty_log
-EndsBy End log (Err Stop.Memory) = IsSound log.events
+-- an answer ends so; nothing is logged where there is a refusal, and where memory is wanting the steps are as is said first
+abbrev pub EndsBy : Type 0 → (Status → Type 0) → LogState → Result Reply Stop → Type 0
+EndsBy steps End log (Ok reply) = End reply.status
+EndsBy steps End log (Err (Stop.Refused refusal)) = log ≡ empty_log
+EndsBy steps End log (Err Stop.Memory) = steps
 
 -- how a run ends, and with which log
 abbrev pub EndsAs : Wanted → LogState → Result Reply Stop → Type 0
-EndsAs wanted log result = IsLogOf wanted log × EndsBy (λ status. IsEnd wanted status log) log result
+EndsAs wanted log result = IsLogOf wanted log × EndsBy (LogsSoundly wanted log.events) (λ status. IsEnd wanted status log) log result
 
 -- a refusal that is shown: nothing is logged, and the files hold what they held
 abbrev pub IsShown : Wanted → Option Held → Option Held → Type 0 → LogState → Refusal → Type 0
@@ -189,7 +200,7 @@ HasAnswer wanted told text log =
 abbrev pub IsUnwritten : Wanted → Option Held → Option Held → Type 0 → LogState → Refusal → Type 0
 IsUnwritten wanted told after rose log refusal =
     rose × (name : List ℕ) × (text : List ℕ) × (refusal ≡ Refusal.CannotWrite name)
-    × FailsAt log text (written_for wanted) told after name × IsSound log.events × IsLogOf wanted log
+    × FailsAt log text (written_for wanted) told after name × LogsSoundly wanted log.events × IsLogOf wanted log
     × HasAnswer wanted told text log
 
 -- memory is wanting, and some first ones of the files that are named for output are written with what answers
@@ -221,6 +232,10 @@ SaysOfRun words told after rose status text log =
     ((status ≡ Status.Usage) × (text ≡ refusal_text Refusal.Usage) × (log ≡ empty_log) × (after ≡ told) × AreNoCommand words)
     ⊎ ((wanted : Wanted) × Want words wanted × SaysTo wanted told after rose status text log)
 
+-- the steps of a run's log are sound; or the words ask for cubes, and they are valid, and those with a literal new
+abbrev pub IsSoundRun : List (List ℕ) → List LogEvent → Type 0
+IsSoundRun words events = IsSound events ⊎ (AskForCubes words × IsValidLog events × NonEmptyStepsAreNew events)
+
 -- what a run tells of the words
 abbrev pub TellsRun : List (List ℕ) → Option Held → Option Held → Type 0 → LogState → Result Reply Stop → Type 0
 TellsRun words told after rose log (Ok reply) =
@@ -229,7 +244,7 @@ TellsRun words told after rose log (Err (Stop.Refused refusal)) =
     ((refusal ≡ Refusal.Usage) × (log ≡ empty_log) × (after ≡ told) × AreNoCommand words)
     ⊎ ((wanted : Wanted) × Want words wanted × IsRefused wanted told after rose log refusal)
 TellsRun words told after rose log (Err Stop.Memory) =
-    IsSound log.events
+    IsSoundRun words log.events
     × ((after ≡ told) ⊎ ((wanted : Wanted) × Want words wanted × IsWanting wanted told after log))
     × OrUnlogged log ((wanted : Wanted) × Want words wanted × IsLogOf wanted log
     × IfSome told (λ held. (task : Task) × ComesTo wanted held (Ok task)))

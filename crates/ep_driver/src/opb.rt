@@ -4,6 +4,7 @@ ghost use Rattle.std.specs.Prelude.{◌≡◌, ◌≤◌, ◌∷◌, [], All, If
 ghost use Rattle.ep_base.specs.Outside.{Rose};
 ghost use Rattle.ep_files.specs.Readings.{IsReadBy};
 ghost use Rattle.ep_solve.specs.Right.{empty_log};
+ghost use Rattle.sat_search.specs.Logs.{IsSound};
 ghost use Rattle.sat_text.specs.Writing.{IsReadableNote};
 ghost use Rattle.ep_driver.specs.Shown.{IsOpbTextReadAs, ThenShows, is_opb_task};
 ghost use Rattle.ep_driver.specs.Steps.{EndsBy, IsSearched, TellsShown, TellsTask};
@@ -29,7 +30,7 @@ pub fn opb_file_reply<F: Files>(
     requires empty { log.old ≡ empty_log }
     ensures tells { TellsTask (opb.now ∷ []) (λ held. ThenShows (IsReadBy IsOpbTextReadAs held opb.now) (is_opb_task conflicts))
         (F.held files.old) (Rose (F.faults files.old) (F.faults files.new)) log.new result }
-    ensures ends { EndsBy (λ status. IsSearched conflicts status log.new) log.new result }
+    ensures ends { EndsBy (IsSound log.new.events) (λ status. IsSearched conflicts status log.new) log.new result }
     ensures readable { IfOk result (λ reply. All IsReadableNote log.new.notes) }
     ensures held { F.held files.new ≡ F.held files.old }
     ensures faults { F.faults files.old ≤ F.faults files.new }
@@ -42,7 +43,7 @@ pub fn opb_file_reply<F: Files>(
 fn opb_reply(alloc: Global, text: &[u8], conflicts: u64, log: &mut Log) -> Result<Reply, Stop>
     requires empty { log.old ≡ empty_log }
     ensures tells { TellsShown (ThenShows (IsOpbTextReadAs text.now) (is_opb_task conflicts)) log.new result }
-    ensures ends { EndsBy (λ status. IsSearched conflicts status log.new) log.new result }
+    ensures ends { EndsBy (IsSound log.new.events) (λ status. IsSearched conflicts status log.new) log.new result }
     ensures readable { IfOk result (λ reply. All IsReadableNote log.new.notes) }
 {
     opb_texts_come_to_one_thing();

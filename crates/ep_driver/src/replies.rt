@@ -4,10 +4,9 @@ ghost use Rattle.std.specs.Prelude.{◌≡◌, ◌≤◌, IfOk, OnErr};
 ghost use Rattle.ep_base.specs.Outside.{Rose};
 ghost use Rattle.ep_print.specs.Refusals.{refusal_text};
 ghost use Rattle.ep_solve.specs.Right.{empty_log};
-ghost use Rattle.sat_search.specs.Logs.{IsSound};
 ghost use Rattle.ep_driver.specs.Puts.{HoldOnWant};
 ghost use Rattle.ep_files.specs.Status.{HasReply, status_of};
-ghost use Rattle.ep_driver.specs.Steps.{AnswersWords, LogsTask, SaysOfRun, TellsRun};
+ghost use Rattle.ep_driver.specs.Steps.{AnswersWords, IsSoundRun, LogsTask, SaysOfRun, TellsRun};
 
 use super::runs::do_wanted;
 use super::wanted::read_wanted;
@@ -42,7 +41,7 @@ pub fn reply_to<R: Threads + Sync, F: Files>(
     ensures wants { OnErr result (HoldOnWant words.now (F.held files.old) (F.held files.new)
         (Rose (F.faults files.old) (F.faults files.new)) log.new) }
     ensures asked { OnErr result (LogsTask words.now (F.held files.old) log.new) }
-    ensures sound { IsSound log.new.events }
+    ensures sound { IsSoundRun words.now log.new.events }
     ensures faults { F.faults files.old ≤ F.faults files.new }
 {
     match run_words(rt, alloc, words, files, log) {

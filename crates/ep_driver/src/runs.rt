@@ -5,12 +5,12 @@ ghost use Rattle.ep_base.specs.Outside.{Rose};
 ghost use Rattle.ep_tree.specs.Texts.{IsSpellable};
 ghost use Rattle.ep_tree.specs.Views.{model_tree, params_tree};
 ghost use Rattle.sat_text.specs.Writing.{IsReadableNote};
-ghost use Rattle.ep_driver.specs.Commands.{conflicts_wanted, files_of};
+ghost use Rattle.ep_driver.specs.Commands.{files_of};
 ghost use Rattle.ep_driver.specs.Outcomes.{search_outcome, verify_outcome};
-ghost use Rattle.ep_driver.specs.Searches.{CanBeWanted, LogsInstance, NotesMayBeWritten};
+ghost use Rattle.ep_driver.specs.Searches.{CanBeWanted, HasFewCubes, HasSoundSteps, LogsInstance, NotesMayBeWritten};
 ghost use Rattle.ep_driver.specs.Shown.{ComesTo, comes_to_check, comes_to_judge, comes_to_search, comes_to_verify};
 ghost use Rattle.ep_solve.specs.Right.{empty_log};
-ghost use Rattle.ep_driver.specs.Steps.{AnswersTexts, EndsAs, EndsBy, IsJudgedEnd, IsSearched, TellsReply, TellsTask};
+ghost use Rattle.ep_driver.specs.Steps.{AnswersTexts, EndsAs, EndsBy, IsJudgedEnd, IsSearchedFor, TellsReply, TellsTask};
 ghost use Rattle.ep_files.specs.Reads.{formula_clauses};
 
 use super::answering::searched_reply;
@@ -57,7 +57,7 @@ pub fn do_wanted<R: Threads + Sync, F: Files>(
             ..
         } => {
             let model = read_model(alloc, files, model)?;
-            search_model(alloc, files, model, params, *mode, *request, log)
+            search_model(rt, alloc, files, model, params, *mode, *request, log)
         }
         Wanted::Opb { opb, conflicts } => opb_file_reply(alloc, files, opb, *conflicts, log),
         Wanted::Verify {
@@ -81,12 +81,13 @@ pub fn do_wanted<R: Threads + Sync, F: Files>(
             number,
             conflicts,
             ..
-        } => generate(alloc, *number, *conflicts, log),
+        } => generate(rt, alloc, *number, *conflicts, log),
     }
 }
 
 /// Searches in a model, once its parameters are read.
-fn search_model<F: Files>(
+fn search_model<R: Threads + Sync, F: Files>(
+    rt: &R,
     alloc: Global,
     files: &mut F,
     model: Model,
@@ -97,15 +98,16 @@ fn search_model<F: Files>(
 ) -> Result<Reply, Stop>
     requires spelled { IsSpellable (model_tree model) }
     requires empty { log.old ≡ empty_log }
+    requires few { HasFewCubes request }
     ensures tells { TellsTask (option_to_list params.now) (comes_to_search mode request params.now (model_tree model))
         (F.held files.old) (Rose (F.faults files.old) (F.faults files.new)) log.new result }
-    ensures ends { EndsBy (λ status. IsSearched (conflicts_wanted request) status log.new) log.new result }
+    ensures ends { EndsBy (HasSoundSteps request log.new.events) (λ status. IsSearchedFor request status log.new) log.new result }
     ensures readable { IfOk result (λ reply. LogsInstance request → All IsReadableNote log.new.notes) }
     ensures held { F.held files.new ≡ F.held files.old }
     ensures faults { F.faults files.old ≤ F.faults files.new }
 {
     let params = read_named_params(alloc, files, params)?;
-    search_texts(alloc, model, params, mode, request, log)
+    search_texts(rt, alloc, model, params, mode, request, log)
 }
 
 /// Verifies a solution text of a model, once its parameters are read.
@@ -169,7 +171,8 @@ fn check_proof<R: Threads + Sync, F: Files>(
 }
 
 /// Searches in a model under its parameters.
-pub fn search_texts(
+pub fn search_texts<R: Threads + Sync>(
+    rt: &R,
     alloc: Global,
     model: Model,
     params: Params,
@@ -179,15 +182,16 @@ pub fn search_texts(
 ) -> Result<Reply, Stop>
     requires spelled { IsSpellable (model_tree model) }
     requires empty { log.old ≡ empty_log }
+    requires few { HasFewCubes request }
     ensures tells { TellsReply (search_outcome mode request (model_tree model) (params_tree params)) log.new result }
-    ensures ends { EndsBy (λ status. IsSearched (conflicts_wanted request) status log.new) log.new result }
+    ensures ends { EndsBy (HasSoundSteps request log.new.events) (λ status. IsSearchedFor request status log.new) log.new result }
     ensures readable { IfOk result (λ reply. LogsInstance request → All IsReadableNote log.new.notes) }
 {
     notes_can_be_read();
     let model = checked_model(alloc, model)?;
     let params = checked_params(alloc, TextFile::Params, params)?;
     let instance = instance_of(alloc, mode, model, params)?;
-    let reply = searched_reply(alloc, &instance, request, log)?;
+    let reply = searched_reply(rt, alloc, &instance, request, log)?;
     Ok(reply)
 }
 

@@ -9,6 +9,7 @@ ghost use Rattle.ep_solve.specs.Right.{IsSpent, empty_log};
 ghost use Rattle.sat_search.specs.Logs.{EndsWithEmptyStep, IsSound};
 ghost use Rattle.cnf_core.specs.Events.{givens};
 ghost use Rattle.cnf_core.specs.LogLines.{log_lines};
+ghost use Rattle.cnf_core.specs.Steps.{IsValidLog, NonEmptyStepsAreNew};
 ghost use Rattle.log_check.specs.Verdict.{first_bad, verdict_of};
 ghost use Rattle.log_check.specs.declared.Verdict.TheVariants.{Verified};
 ghost use Rattle.ep_driver.specs.Answers.{Settles};
@@ -19,7 +20,7 @@ ghost use Rattle.ep_outputs.specs.Outputs.{AreWritten, IsFormulaText, IsStepsTex
 ghost use Rattle.ep_driver.specs.Outputs.{HasOutput, HoldsText, SameButOutput};
 ghost use Rattle.ep_driver.specs.Promised.{IsPromised};
 ghost use Rattle.ep_driver.specs.Puts.{IsDeviceLine, MayBePut, TookFirst, TookOnWant};
-ghost use Rattle.ep_driver.specs.Searches.{IsSearchFor};
+ghost use Rattle.ep_driver.specs.Searches.{AskForCubes, IsSearchFor};
 ghost use Rattle.ep_driver.specs.Shown.{Ask, Refuses, Show, comes_to_generate};
 ghost use Rattle.ep_files.specs.Status.{HasReply, status_of};
 ghost use Rattle.ep_files.specs.declared.status.Status.{Status as StatusValue};
@@ -138,10 +139,13 @@ pub fn run<R: Threads + Sync, F: Files, K: Sink>(
     ensures usage_refused { AreNoCommand words.now → ¬ Rose (K.faults out.old) (K.faults out.new) →
         (result ≡ StatusValue.Usage) ⊎ (result ≡ StatusValue.Memory) }
 
-    // Each step of the log is valid, and each with a literal new and effective, however the run ends; and
-    // nothing is logged with a refusal or a judgement, nor where a refusal stands, nor where the words ask for
-    // a judgement, however that ends.
-    ensures sound { IsSound log.new.events }
+    // Each step of the log is valid, and each with a literal new, however the run ends. Each with a literal is effective too, but
+    // where the words ask for cubes, whose joined steps can be less, and the conflicts weren't spent.
+    ensures valid { IsValidLog log.new.events }
+    ensures new { NonEmptyStepsAreNew log.new.events }
+    ensures sound { (¬ AskForCubes words.now) ⊎ (result ≡ StatusValue.Unknown) → IsSound log.new.events }
+    // Nothing is logged with a refusal or a judgement, nor where a refusal stands, nor where the words ask for a judgement, however
+    // that ends.
     ensures unlogged { (result ≡ StatusValue.Refuted) ⊎ ((result ≡ StatusValue.Usage)
         ⊎ ((result ≡ StatusValue.Text) ⊎ (result ≡ StatusValue.Limit))) → log.new ≡ empty_log }
     ensures refused_unlogged { IfSome (F.held files.old) (λ held.

@@ -1,7 +1,7 @@
 //! What the words of a command want of a run.
 
 ghost use Rattle.std.specs.Prelude.{◌≡◌};
-ghost use Rattle.ep_driver.specs.Commands.{wanted_of};
+ghost use Rattle.ep_driver.specs.Commands.{one_within, wanted_of};
 ghost use Rattle.ep_driver.specs.Steps.{TellsWanted};
 
 use ep_base::Word;
@@ -67,6 +67,8 @@ pub struct Outputs {
 pub enum Request {
     /// A solution, and the best one where an objective is stated.
     One { conflicts: u64 },
+    /// A solution, by cubes over at most so many variables, each within so many conflicts; where an objective is stated, as the one above.
+    Divided { cubes: u64, conflicts: u64 },
     /// At most so many solutions.
     Many { most: u64, conflicts: u64 },
     /// Which clauses have no solution together, each attempt within so many conflicts.
@@ -100,11 +102,12 @@ fn wanted_of(job: Job) -> Wanted
             out_cnf,
             out_log,
             undefined,
+            cubes,
         } => Wanted::Search {
             model: in_eprime,
             params: in_param,
             mode: undefined,
-            request: Request::One { conflicts },
+            request: one_within(conflicts, cubes),
             outputs: Outputs {
                 formula: out_cnf,
                 log: out_log,
@@ -185,5 +188,16 @@ fn wanted_of(job: Job) -> Wanted
             eprime: out_eprime,
             param: out_param,
         },
+    }
+}
+
+/// A request for one solution, by cubes where it is said over how many variables.
+#[tactic(auto, unfolding(crate::specs::Commands::one_within))]
+fn one_within(conflicts: u64, cubes: Option<u64>) -> Request
+    ensures { result ≡ one_within conflicts cubes }
+{
+    match cubes {
+        Some(cubes) => Request::Divided { cubes, conflicts },
+        None => Request::One { conflicts },
     }
 }

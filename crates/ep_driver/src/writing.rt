@@ -63,6 +63,7 @@ fn write_searched<F: Files>(
 {
     match request {
         Request::One { .. } => write_outputs(alloc, files, outputs, log, answer),
+        Request::Divided { .. } => write_outputs(alloc, files, outputs, log, answer),
         Request::Many { .. } => write_outputs(alloc, files, outputs, log, answer),
         Request::Explained { .. } => Ok(()),
         Request::Generated { .. } => write_outputs(alloc, files, outputs, log, answer),

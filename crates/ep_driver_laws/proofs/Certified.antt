@@ -17,7 +17,7 @@ use Rattle.ep_tree.specs.Solutions.{Assigned, Found}
 use Rattle.ep_tree.specs.declared.values.Mode.{Mode}
 use Rattle.log_check.specs.Verdict.{first_bad, verdict_of}
 use Rattle.log_check.specs.declared.Verdict.TheVariants.{Verified}
-use Rattle.sat_search.specs.Logs.{EndsWithEmptyStep, IsSound}
+use Rattle.sat_search.specs.Logs.{EndsWithEmptyStep}
 use Rattle.sat_text.specs.CnfGrammar.{SpellsCnf}
 use Rattle.ep_outputs.specs.Outputs.{IsFormulaText, IsStepsText, NotesUpTo}
 use Rattle.ep_driver_laws.specs.Certificates.{AnswersCertify, Certifies, ListsCertify, Verifies, closes, closes_list, left_of_answer, read_added, read_notes}
@@ -29,10 +29,10 @@ givens_joined [] other = refl
 givens_joined (given clause ∷ one) other = ap (λ (cs : List (List Literal)). clause ∷ cs) (givens_joined one other)
 givens_joined (step clause hints ∷ one) other = givens_joined one other
 
-givens_cut : (log : LogState) → givens log.events ≡ givens (take log.base log.events) ++ added_clauses log
+pub givens_cut : (log : LogState) → givens log.events ≡ givens (take log.base log.events) ++ added_clauses log
 givens_cut log = ap givens (sym (take-append-drop log.base log.events)) ∙ givens_joined (take log.base log.events) (drop log.base log.events)
 
-own_givens : (log : LogState) → take (length (givens log.events) - length (added_clauses log)) (givens log.events) ≡ givens (take log.base log.events)
+pub own_givens : (log : LogState) → take (length (givens log.events) - length (added_clauses log)) (givens log.events) ≡ givens (take log.base log.events)
 own_givens log =
     let own = givens (take log.base log.events) in
     let more = added_clauses log in
@@ -40,7 +40,7 @@ own_givens log =
     let count : length (givens log.events) - length more ≡ length own = omega (arith, all) in
     ap (λ (n : ℕ). take n (givens log.events)) count ∙ ap (λ (cs : List (List Literal)). take (length own) cs) (givens_cut log) ∙ take-append_seam own more
 
-few_added : (log : LogState) → length (added_clauses log) ≤ length (givens log.events)
+pub few_added : (log : LogState) → length (added_clauses log) ≤ length (givens log.events)
 few_added log =
     let all : length (givens log.events) ≡ length (givens (take log.base log.events)) + length (added_clauses log) = ap length (givens_cut log) ∙ length-append (givens (take log.base log.events)) (added_clauses log) in
     omega (arith, all)
@@ -69,7 +69,7 @@ driven_leaves mode i log value driven =
     = ap (λ (n : ℕ). first_givens log n) count ∙ ap (λ (cs : List (List Literal)). givens (take log.base log.events) ++ cs) (take_all (length added) added (omega arith)) ∙ sym (givens_cut log) in
     subst (λ (cs : List (List Literal)). TellSolutions mode i log.notes cs (IsBetterSolution mode i value)) first (driven.narrows (length driven.numbers - 1) value driven.last)
 
-own_leave : (mode : Mode) (i : Instance) (log : LogState) → Stands mode i log → added_clauses log ≡ [] → TellSolutions mode i log.notes (givens log.events) (λ found. Unit {0})
+pub own_leave : (mode : Mode) (i : Instance) (log : LogState) → Stands mode i log → added_clauses log ≡ [] → TellSolutions mode i log.notes (givens log.events) (λ found. Unit {0})
 own_leave mode i log stands none = subst (λ (cs : List (List Literal)). TellSolutions mode i log.notes cs (λ found. Unit {0})) (none_added log none) stands.told
 
 answer_leaves : (mode : Mode) (i : Instance) (conflicts : ℕ) (log : LogState) (answer : AnswerTree) → Stands mode i log → ShowsAnswer mode i conflicts log answer → TellSolutions mode i log.notes (givens log.events) (left_of_answer mode i answer)
@@ -95,7 +95,7 @@ closed_verified : VerifiesClosed → (events : List LogEvent) → IsValidLog eve
 closed_verified law events valid ends =
     subst (λ (es : List LogEvent). verdict_of (givens es) (log_lines es) ≡ Verified) (sym ends.events_are) (law ends.before ends.hints (subst IsValidLog ends.events_are valid))
 
-formula_certifies : (mode : Mode) (i : Instance) (log : LogState) (left : Found → Type 0) (text : List ℕ) → Stands mode i log → TellSolutions mode i log.notes (givens log.events) left
+pub formula_certifies : (mode : Mode) (i : Instance) (log : LogState) (left : Found → Type 0) (text : List ℕ) → Stands mode i log → TellSolutions mode i log.notes (givens log.events) left
     → IsFormulaText log text → Certifies mode i left text
 formula_certifies mode i log left text stands leaves t =
     let again = t.again in
@@ -114,16 +114,16 @@ formula_certifies mode i log left text stands leaves t =
       leaves = subst (λ (ns : List Note). TellSolutions mode i ns (givens log.events) left) notes leaves;
     }
 
-steps_verify : AcceptsValid → VerifiesClosed → (log : LogState) (closed : Type 0) → (closed → EndsWithEmptyStep log.events) → (text steps : List ℕ) → IsSound log.events
+pub steps_verify : AcceptsValid → VerifiesClosed → (log : LogState) (closed : Type 0) → (closed → EndsWithEmptyStep log.events) → (text steps : List ℕ) → IsValidLog log.events
     → IsFormulaText log text → IsStepsText log steps → Verifies text steps closed
-steps_verify accepts verifies log closed ends text steps sound t s = record {
+steps_verify accepts verifies log closed ends text steps valid t s = record {
   vars = t.formula.vars;
   clauses = givens log.events;
   lines = log_lines log.events;
   spelled = subst (λ (cs : List (List Literal)). SpellsCnf text t.formula.vars cs) t.clauses t.spells;
   said = s.spells;
-  accepted = accepts log.events sound.valid;
-  verified = λ here. closed_verified verifies log.events sound.valid (ends here);
+  accepted = accepts log.events valid;
+  verified = λ here. closed_verified verifies log.events valid (ends here);
 }
 
 answer_closes : (mode : Mode) (i : Instance) (conflicts : ℕ) (log : LogState) (answer : AnswerTree) → ShowsAnswer mode i conflicts log answer → closes answer → EndsWithEmptyStep log.events
@@ -143,14 +143,14 @@ list_closes mode i conflicts most log listed (spent n) ends here = absurd here
 pub answers_certify : AcceptsValid → VerifiesClosed → AnswersCertify
 answers_certify accepts verifies mode i conflicts log answer logged text t = record {
   certifies = formula_certifies mode i log (left_of_answer mode i answer) text logged.stands (answer_leaves mode i conflicts log answer logged.stands logged.shows) t;
-  verifies = λ steps s. steps_verify accepts verifies log (closes answer) (answer_closes mode i conflicts log answer logged.shows) text steps logged.sound t s;
+  verifies = λ steps s. steps_verify accepts verifies log (closes answer) (answer_closes mode i conflicts log answer logged.shows) text steps logged.sound.valid t s;
 }
 
 pub lists_certify : AcceptsValid → VerifiesClosed → ListsCertify
 lists_certify accepts verifies mode i most conflicts log listing lists text t = (
   record {
     certifies = formula_certifies mode i log (IsUnlisted listing.found) text lists.stands lists.left t;
-    verifies = λ steps s. steps_verify accepts verifies log (closes_list listing.ending) (list_closes mode i conflicts most log listing.found listing.ending lists.ends) text steps lists.sound t s;
+    verifies = λ steps s. steps_verify accepts verifies log (closes_list listing.ending) (list_closes mode i conflicts most log listing.found listing.ending lists.ends) text steps lists.sound.valid t s;
   },
   t.again.same_number ∙ lists.added,
 )

@@ -1,19 +1,23 @@
 -- What the files of a search say to a reader who has nothing but their bytes.
-use Rattle.std.specs.Prelude.{◌≡◌, ◌≤◌, ◌-◌, ℕ, List, [], length, take, None, Some}
+use Rattle.std.specs.Prelude.{◌≡◌, ◌<◌, ◌≤◌, ◌-◌, ◌^◌, ℕ, ℤ, Bool, List, [], drop, length, map, take, None, Some}
+use Rattle.cnf_core.specs.Clauses.{Satisfies}
 use Rattle.cnf_core.specs.Events.{LogState, Note}
 use Rattle.cnf_core.specs.Lines.{ProofLine}
 use Rattle.cnf_core.specs.Literal.{Literal}
 use Rattle.ep_base.specs.Outside.{Held}
 use Rattle.ep_print.specs.Listings.{EndTree, ListingTree, complete, spent, stopped}
 use Rattle.ep_print.specs.Answers.{AnswerTree, no_solution, optimum, solution, unknown, unknown_with}
+use Rattle.ep_divided.specs.Divided.{IsDivided}
 use Rattle.ep_solve.specs.Listed.{IsUnlisted, Lists}
-use Rattle.ep_solve.specs.Logged.{IsBetterSolution, IsLogged, TellSolutions}
+use Rattle.ep_solve.specs.Logged.{IsBetterSolution, IsLogged, TellNumbers, TellSolutions}
 use Rattle.ep_tree.specs.Binding.{Instance}
 use Rattle.ep_tree.specs.Solutions.{Found}
 use Rattle.ep_tree.specs.declared.values.Mode.{Mode}
+use Rattle.ep_unroll.specs.Cells.{found_numbers, instance_cells}
 use Rattle.log_check.specs.Verdict.{first_bad, verdict_of}
 use Rattle.log_check.specs.declared.Verdict.{Verdict}
 use Rattle.log_check.specs.declared.Verdict.TheVariants.{Verified}
+use Rattle.sat_split.specs.Cubes.{AreCubeVariables, LiesIn, cube_literals, unit_of}
 use Rattle.sat_text.specs.CnfGrammar.{SpellsCnf}
 use Rattle.sat_text.specs.LogGrammar.{SpellsLog}
 use Rattle.sat_text.specs.Notes.{added_of, notes_of}
@@ -103,6 +107,53 @@ ListsCertify =
     → (text : List ℕ) → IsFormulaText log text
     → IsCertified mode i log (IsUnlisted listing.found) (closes_list listing.ending) text
     × (read_added text ≡ length listing.found)
+
+-- ---- cubes
+
+-- the clauses before those that a reader reads as added
+abbrev pub own_clauses : List ℕ → List (List Literal) → List (List Literal)
+own_clauses text clauses = take (length clauses - read_added text) clauses
+
+-- Under an assignment in a cube that satisfies clauses, notes tell these numbers of an instance's cells.
+pub record AreToldIn (i : Instance) (notes : List Note) (clauses : List (List Literal)) (cube : List Literal) (numbers : List ℤ) : Type 0 where
+  pub assignment : ℕ → Bool
+  pub satisfies : Satisfies assignment clauses
+  pub lies_in : LiesIn cube assignment
+  pub tell : TellNumbers assignment notes (instance_cells i) numbers
+
+-- What the bytes of a formula's text say where the conflicts of a cube were spent. The clauses that were added are the cube's literals, one
+-- each, over the lowest variables that stand in the clauses before them, at most so many. By the lines of cells the assignments that
+-- satisfy these clauses tell exactly the instance's solutions, and the assignments that satisfy all clauses tell exactly the solutions that
+-- are told in the cube. No line of a text of the log's steps is bad over all clauses.
+pub record CertifiesCube (mode : Mode) (i : Instance) (most : ℕ) (log : LogState) (text : List ℕ) : Type 0 where
+  pub vars : ℕ
+  pub clauses : List (List Literal)
+  pub spelled : SpellsCnf text vars clauses
+  pub noted : NotesUpTo vars (read_notes text)
+  pub few : read_added text ≤ length clauses
+  pub cube_vars : List ℕ
+  pub are : AreCubeVariables most (own_clauses text clauses) cube_vars
+  pub cube : ℕ
+  pub is_cube : cube < 2 ^ length cube_vars
+  pub added : drop (length clauses - read_added text) clauses ≡ map unit_of (cube_literals cube cube_vars)
+  pub stands : TellSolutions mode i (read_notes text) (own_clauses text clauses) (λ _. Unit {0})
+  pub leaves : TellSolutions mode i (read_notes text) clauses
+      (λ found. AreToldIn i (read_notes text) (own_clauses text clauses) (cube_literals cube cube_vars) (found_numbers found))
+  pub verifies : (steps : List ℕ) → IsStepsText log steps → Verifies text steps ⊥
+
+-- what the text says of an answer by cubes: a solution leaves all solutions, and "no solution" is verified
+abbrev pub CertifiesByCubes : Mode → Instance → ℕ → LogState → AnswerTree → List ℕ → Type 0
+CertifiesByCubes mode i most log (solution a) text = IsCertified mode i log (λ found. Unit {0}) ⊥ text
+CertifiesByCubes mode i most log (optimum value a) text = ⊥
+CertifiesByCubes mode i most log no_solution text = IsCertified mode i log (λ found. Unit {0}) (Unit {0}) text
+CertifiesByCubes mode i most log (unknown conflicts) text = CertifiesCube mode i most log text
+CertifiesByCubes mode i most log (unknown_with conflicts value a) text = ⊥
+
+-- so it is of a log that shows an answer by cubes, over at most so many variables
+abbrev pub CubesCertify : Type 0
+CubesCertify =
+    (mode : Mode) (i : Instance) (most conflicts : ℕ) (log : LogState) (answer : AnswerTree) → IsDivided mode i most conflicts log answer
+    → (text : List ℕ) → IsFormulaText log text → CertifiesByCubes mode i most log answer text
 
 -- ---- the check
 

@@ -5,7 +5,7 @@ ghost use Rattle.std.specs.Prelude.{ℕ, List};
 ghost use Rattle.ep_base.specs.Outside.{Held};
 ghost use Rattle.ep_driver.specs.Outcomes.{Outcome, Task};
 ghost use Rattle.ep_driver.specs.Shown.{Show};
-ghost use Rattle.ep_driver_laws.specs.Certificates.{AnswersCertify, ChecksSaySo, ListsCertify};
+ghost use Rattle.ep_driver_laws.specs.Certificates.{AnswersCertify, ChecksSaySo, CubesCertify, ListsCertify};
 ghost use Rattle.ep_driver_laws.specs.Generated.{NumbersAreNeverRefused};
 
 use ep_gen_laws::each_number_gives_an_instance;
@@ -25,10 +25,12 @@ pub fn every_command_shows()
 /// text of its formula, which is what `run` writes (`answered`, `formula_file`, `log_file`). By the text's own lines of cells, the
 /// assignments that satisfy the clauses before those that it says were added tell exactly the instance's solutions, and those that satisfy
 /// all clauses tell exactly what is left: the solutions that are better than the one that was said, or that weren't listed. No line of
-/// the text of the steps is bad over these clauses, and beside an optimum, "no solution" and a complete list they are verified.
+/// the text of the steps is bad over these clauses, and beside an optimum, "no solution" and a complete list they are verified. Where the
+/// conflicts of a cube were spent, the clauses that were added are its literals, and left are the solutions that are told in it.
 pub fn written_files_certify()
     ensures answers { AnswersCertify }
     ensures lists { ListsCertify }
+    ensures cubes { CubesCertify }
 {
     valid_logs_are_accepted();
 }

@@ -18,17 +18,17 @@ use Rattle.ep_driver.proofs.ShownTexts.{reply-shown, then-shown, unread-shown}
 use Rattle.ep_driver.proofs.generating.generate.Goals as goal
 
 pub returns-in_err-texts-clause-tells : goal.returns-in_err-texts-clause-tells
-returns-in_err-texts-clause-tells c =
+returns-in_err-texts-clause-tells g c =
     let p = err_from_is_err_and c.from_residual.result c.from_residual.ensures.1 in
     rw (p.1, p.2) (inl c.requires.empty)
 
 pub returns-in_err-texts-clause-ends : goal.returns-in_err-texts-clause-ends
-returns-in_err-texts-clause-ends c =
+returns-in_err-texts-clause-ends g c =
     let p = err_from_is_err_and c.from_residual.result c.from_residual.ensures.1 in
     rw (p.1, p.2) (nothing-sound c.args.log.now c.requires.empty)
 
 pub returns-in_err-model-clause-tells : goal.returns-in_err-model-clause-tells
-returns-in_err-model-clause-tells c =
+returns-in_err-model-clause-tells g c =
     let p = err_from_is_err_and c.from_residual-in_err-model.result c.from_residual-in_err-model.ensures.1 in
     let stop = c.in_err-model.field-0.0 in
     let T : List ℕ → Type 0 = λ t. TellsText model_tree (IsTextReadAs TextFile.Model) t (Err stop) in
@@ -37,12 +37,12 @@ returns-in_err-model-clause-tells c =
     (subst T (c.deref.ensures.value ∙ c.in_ok-texts.ensures.model) c.in_err-model.ensures.tells))
 
 pub returns-in_err-model-clause-ends : goal.returns-in_err-model-clause-ends
-returns-in_err-model-clause-ends c =
+returns-in_err-model-clause-ends g c =
     let p = err_from_is_err_and c.from_residual-in_err-model.result c.from_residual-in_err-model.ensures.1 in
     rw (p.1, p.2) (stopped-ends (λ status. IsSearched c.args.conflicts status c.args.log.now) c.args.log.now c.in_err-model.field-0.0 c.requires.empty)
 
 pub returns-in_err-params-clause-tells : goal.returns-in_err-params-clause-tells
-returns-in_err-params-clause-tells c =
+returns-in_err-params-clause-tells g c =
     let p = err_from_is_err_and c.from_residual-in_err-params.result c.from_residual-in_err-params.ensures.1 in
     let stop = c.in_err-params.field-0.0 in
     let m = model_tree c.in_ok-model.model in
@@ -56,12 +56,12 @@ returns-in_err-params-clause-tells c =
     (subst T (c.deref-2.ensures.value ∙ c.in_ok-texts.ensures.params) c.in_err-params.ensures)))
 
 pub returns-in_err-params-clause-ends : goal.returns-in_err-params-clause-ends
-returns-in_err-params-clause-ends c =
+returns-in_err-params-clause-ends g c =
     let p = err_from_is_err_and c.from_residual-in_err-params.result c.from_residual-in_err-params.ensures.1 in
     rw (p.1, p.2) (stopped-ends (λ status. IsSearched c.args.conflicts status c.args.log.now) c.args.log.now c.in_err-params.field-0.0 c.requires.empty)
 
 pub returns-clause-tells : goal.returns-clause-tells
-returns-clause-tells c =
+returns-clause-tells g c =
     let m = model_tree c.in_ok-model.model in
     let q = params_tree c.in_ok-params.params in
     let M : List ℕ → Type 0 = λ t. IsTextReadAs TextFile.Model t (Ok m) in
@@ -76,7 +76,7 @@ returns-clause-tells c =
 
 pub returns-clause-ends : goal.returns-clause-ends
 unfolding conflicts_wanted
-returns-clause-ends c = c.search_texts.ensures.ends
+returns-clause-ends g c = c.search_texts.ensures.ends
 
 pub returns-clause-readable : goal.returns-clause-readable
-returns-clause-readable c = without-premise _ _ c.search_texts.result tt c.search_texts.ensures.readable
+returns-clause-readable g c = without-premise _ _ c.search_texts.result tt c.search_texts.ensures.readable

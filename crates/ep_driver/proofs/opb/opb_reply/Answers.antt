@@ -1,5 +1,6 @@
 use Rattle.std.proofs.Common.{◌∙◌, Err, refl, sym, subst}
 use Rattle.ep_files.specs.declared.stops.Stop.{Stop}
+use Rattle.sat_search.specs.Logs.{IsSound}
 use Rattle.ep_driver.specs.Shown.{IsOpbTextReadAs, ThenShows, is_opb_task}
 use Rattle.ep_driver.specs.Steps.{EndsBy, IsSearched, TellsShown}
 use Rattle.ep_driver.proofs.OpbReplies.{opb-answered, opb-ends, opb-stop-ends, opb-stopped}
@@ -24,7 +25,7 @@ returns-in-Err-clause-tells c =
 pub returns-in-Err-clause-ends : goal.returns-in-Err-clause-ends
 returns-in-Err-clause-ends c =
     let log = c.reply_to_opb.new.log in
-    let P : Stop → Type 0 = λ stop. EndsBy (λ status. IsSearched c.args.conflicts status log) log (Err stop) in
+    let P : Stop → Type 0 = λ stop. EndsBy (IsSound log.events) (λ status. IsSearched c.args.conflicts status log) log (Err stop) in
     subst P (sym c.opb_stop.ensures)
     (opb-stop-ends c.args.text.now c.args.conflicts log c.in-Err.stop c.in-Err.ensures.replies
     (λ refusal comes. (c.in-Err.ensures.refused refusal comes).1 ∙ c.requires.empty) c.in-Err.ensures.sound)

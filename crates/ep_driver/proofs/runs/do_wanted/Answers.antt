@@ -14,6 +14,7 @@ use Rattle.ep_solve.specs.Right.{empty_log}
 use Rattle.ep_driver.specs.Steps.{AnswersTexts, EndsAs, TellsTask}
 use Rattle.ep_files.specs.Reads.{formula_clauses}
 use Rattle.ep_driver.specs.declared.wanted.Wanted.{Wanted}
+use Rattle.ep_driver.proofs.Allowed.{few-wanted}
 use Rattle.ep_driver.proofs.Chains.{after, stable-file, unread}
 use Rattle.ep_driver.proofs.Noted.{none-readable, with-premise}
 use Rattle.ep_driver.proofs.Running.{check-ends, stopped-as, verify-ends}
@@ -196,3 +197,6 @@ returns-in-Opb-clause-readable g c = with-premise _ _ c.opb_file_reply.result c.
 
 pub returns-in-Generate-clause-readable : goal.returns-in-Generate-clause-readable
 returns-in-Generate-clause-readable g c = with-premise _ _ c.generate.result c.generate.ensures.readable
+
+pub search_model-requires-clause-few : goal.search_model-requires-clause-few
+search_model-requires-clause-few g c = λ κs lives. few-wanted c.args.wanted.now c.in-Search.request c.in-Search.is c.requires.possible

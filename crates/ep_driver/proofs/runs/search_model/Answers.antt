@@ -2,12 +2,10 @@ use Rattle.std.proofs.lemmas.Result.{err_from_is_err_and}
 use Rattle.std.proofs.Common.{◌≡◌, [], Err, option_to_list}
 use Rattle.ep_base.specs.Outside.{Rose}
 use Rattle.ep_tree.specs.Views.{model_tree}
-use Rattle.ep_driver.specs.Commands.{conflicts_wanted}
 use Rattle.ep_driver.specs.Outcomes.{search_outcome}
 use Rattle.ep_driver.specs.Shown.{comes_to_search}
 use Rattle.ep_driver.proofs.Chains.{unread-params}
-use Rattle.ep_driver.specs.Steps.{IsSearched}
-use Rattle.ep_driver.proofs.Running.{last-read, stopped-ends}
+use Rattle.ep_driver.proofs.Running.{last-read, stopped-search}
 use Rattle.ep_driver.proofs.runs.search_model.Goals as goal
 
 pub returns-in_err-params-clause-tells : goal.returns-in_err-params-clause-tells
@@ -23,4 +21,4 @@ returns-in_err-params-clause-tells g c =
 pub returns-in_err-params-clause-ends : goal.returns-in_err-params-clause-ends
 returns-in_err-params-clause-ends g c =
     let p = err_from_is_err_and c.from_residual.result c.from_residual.ensures.1 in
-    rw (p.1, p.2) (stopped-ends (λ status. IsSearched (conflicts_wanted c.args.request) status c.args.log.now) c.args.log.now c.in_err-params.field-0.0 c.requires.empty)
+    rw (p.1, p.2) (stopped-search c.args.request c.args.log.now c.in_err-params.field-0.0 c.requires.empty)

@@ -8,7 +8,7 @@ use Rattle.ep_driver.proofs.Files.{formula-stands, generated-stands, log-stands}
 use Rattle.ep_driver.proofs.Kept.{promise-stands}
 use Rattle.ep_driver.proofs.Once.{ShownOnce, TextsAreOnce, answers-said, judged-on-want, judged-said, refuses-said, shown-once, unlogged-on-want, unlogged-said, unwritten-on-want, unwritten-said, want-once}
 use Rattle.ep_driver.proofs.Promises.{may-be-put, never-memory, usage-said, want-others, when-answered, when-failed, when-kept, when-not-held, when-others, when-refused, when-refuted, when-unknown, when-unlogged, when-usage, when-written, why-device}
-use Rattle.ep_driver.proofs.Saying.{case-of}
+use Rattle.ep_driver.proofs.Saying.{case-of, run-effective, run-new, run-valid}
 use Rattle.ep_driver.proofs.top.run.Goals as goal
 
 pub returns-in-Ok-put_all-clause-promised : goal.returns-in-Ok-put_all-clause-promised
@@ -142,7 +142,7 @@ returns-in-Ok-put_all-clause-unknown g c =
     let text = c.in-Ok.reply.text.items in
     let log = c.reply_to.new.log in
     let case = case-of words told after rose status text log c.in-Ok.ensures.says in
-    λ h. when-unknown words told after rose status text log case h
+    λ h. let it = when-unknown words told after rose status text log case h in (it.0, it.1, it.2, it.3, it.4)
 
 pub returns-in-Ok-put_all-clause-few : goal.returns-in-Ok-put_all-clause-few
 returns-in-Ok-put_all-clause-few g c =
@@ -154,7 +154,7 @@ returns-in-Ok-put_all-clause-few g c =
     let text = c.in-Ok.reply.text.items in
     let log = c.reply_to.new.log in
     let case = case-of words told after rose status text log c.in-Ok.ensures.says in
-    λ h. below-said c.new_steps_are_few.ensures words log (want-once c.one_job_for_words.ensures words) c.reply_to.ensures.sound.new
+    λ h. below-said c.new_steps_are_few.ensures words log (want-once c.one_job_for_words.ensures words)
     (when-unknown words told after rose status text log case h)
 
 pub returns-in-Ok-put_all-clause-unforced : goal.returns-in-Ok-put_all-clause-unforced
@@ -167,7 +167,7 @@ returns-in-Ok-put_all-clause-unforced g c =
     let text = c.in-Ok.reply.text.items in
     let log = c.reply_to.new.log in
     let case = case-of words told after rose status text log c.in-Ok.ensures.says in
-    λ h. unforced-said c.no_step_is_effective_after_a_conflict.ensures words log c.reply_to.ensures.sound.effective
+    λ h. unforced-said c.no_step_is_effective_after_a_conflict.ensures words log
     (when-unknown words told after rose status text log case h)
 
 pub returns-in-Ok-put_all-clause-usage_refused : goal.returns-in-Ok-put_all-clause-usage_refused
@@ -540,28 +540,28 @@ pub returns-in_default-clause-wanting : goal.returns-in_default-clause-wanting
 returns-in_default-clause-wanting g c = λ h. inl (c.in_default.ensures.wants, c.put_memory.ensures.taken)
 
 pub returns-in_default-clause-accepted : goal.returns-in_default-clause-accepted
-returns-in_default-clause-accepted g c = c.valid_logs_are_accepted.ensures.no_bad c.reply_to.new.log.events c.reply_to.ensures.sound.valid
+returns-in_default-clause-accepted g c = c.valid_logs_are_accepted.ensures.no_bad c.reply_to.new.log.events (run-valid c.args.words.now c.reply_to.new.log.events c.reply_to.ensures.sound)
 
 pub returns-in_default-clause-verified : goal.returns-in_default-clause-verified
-returns-in_default-clause-verified g c = λ ends. ends-verified c.valid_logs_are_accepted.ensures.closed c.reply_to.new.log.events c.reply_to.ensures.sound.valid ends
+returns-in_default-clause-verified g c = λ ends. ends-verified c.valid_logs_are_accepted.ensures.closed c.reply_to.new.log.events (run-valid c.args.words.now c.reply_to.new.log.events c.reply_to.ensures.sound) ends
 
 pub returns-in-Ok-put_all-clause-accepted : goal.returns-in-Ok-put_all-clause-accepted
-returns-in-Ok-put_all-clause-accepted g c = c.valid_logs_are_accepted.ensures.no_bad c.reply_to.new.log.events c.reply_to.ensures.sound.valid
+returns-in-Ok-put_all-clause-accepted g c = c.valid_logs_are_accepted.ensures.no_bad c.reply_to.new.log.events (run-valid c.args.words.now c.reply_to.new.log.events c.reply_to.ensures.sound)
 
 pub returns-in-Ok-put_all-clause-verified : goal.returns-in-Ok-put_all-clause-verified
-returns-in-Ok-put_all-clause-verified g c = λ ends. ends-verified c.valid_logs_are_accepted.ensures.closed c.reply_to.new.log.events c.reply_to.ensures.sound.valid ends
+returns-in-Ok-put_all-clause-verified g c = λ ends. ends-verified c.valid_logs_are_accepted.ensures.closed c.reply_to.new.log.events (run-valid c.args.words.now c.reply_to.new.log.events c.reply_to.ensures.sound) ends
 
 pub returns-in-Err-Failed-clause-accepted : goal.returns-in-Err-Failed-clause-accepted
-returns-in-Err-Failed-clause-accepted g c = c.valid_logs_are_accepted.ensures.no_bad c.reply_to.new.log.events c.reply_to.ensures.sound.valid
+returns-in-Err-Failed-clause-accepted g c = c.valid_logs_are_accepted.ensures.no_bad c.reply_to.new.log.events (run-valid c.args.words.now c.reply_to.new.log.events c.reply_to.ensures.sound)
 
 pub returns-in-Err-Failed-clause-verified : goal.returns-in-Err-Failed-clause-verified
-returns-in-Err-Failed-clause-verified g c = λ ends. ends-verified c.valid_logs_are_accepted.ensures.closed c.reply_to.new.log.events c.reply_to.ensures.sound.valid ends
+returns-in-Err-Failed-clause-verified g c = λ ends. ends-verified c.valid_logs_are_accepted.ensures.closed c.reply_to.new.log.events (run-valid c.args.words.now c.reply_to.new.log.events c.reply_to.ensures.sound) ends
 
 pub returns-clause-accepted : goal.returns-clause-accepted
-returns-clause-accepted g c = c.valid_logs_are_accepted.ensures.no_bad c.reply_to.new.log.events c.reply_to.ensures.sound.valid
+returns-clause-accepted g c = c.valid_logs_are_accepted.ensures.no_bad c.reply_to.new.log.events (run-valid c.args.words.now c.reply_to.new.log.events c.reply_to.ensures.sound)
 
 pub returns-clause-verified : goal.returns-clause-verified
-returns-clause-verified g c = λ ends. ends-verified c.valid_logs_are_accepted.ensures.closed c.reply_to.new.log.events c.reply_to.ensures.sound.valid ends
+returns-clause-verified g c = λ ends. ends-verified c.valid_logs_are_accepted.ensures.closed c.reply_to.new.log.events (run-valid c.args.words.now c.reply_to.new.log.events c.reply_to.ensures.sound) ends
 
 pub returns-in-Ok-put_all-clause-formula_file : goal.returns-in-Ok-put_all-clause-formula_file
 returns-in-Ok-put_all-clause-formula_file g c =
@@ -602,3 +602,51 @@ returns-in-Ok-put_all-clause-generated g c =
     λ h number conflicts eprime param want.
     generated-stands words told after status text log Took number conflicts eprime param (want-once c.one_job_for_words.ensures words) want (c.in-Ok.ensures.generated h number conflicts eprime param want)
     (when-written words told after rose status text log case h) took
+
+pub returns-in_default-clause-valid : goal.returns-in_default-clause-valid
+returns-in_default-clause-valid g c = run-valid c.args.words.now c.reply_to.new.log.events c.reply_to.ensures.sound
+
+pub returns-in_default-clause-new : goal.returns-in_default-clause-new
+returns-in_default-clause-new g c = run-new c.args.words.now c.reply_to.new.log.events c.reply_to.ensures.sound
+
+pub returns-in_default-clause-sound : goal.returns-in_default-clause-sound
+returns-in_default-clause-sound g c = λ h.
+    elim h [ inl none ↦ run-effective c.args.words.now c.reply_to.new.log.events c.reply_to.ensures.sound none | inr e ↦ absurd cc ]
+
+pub returns-in-Ok-put_all-clause-valid : goal.returns-in-Ok-put_all-clause-valid
+returns-in-Ok-put_all-clause-valid g c = run-valid c.args.words.now c.reply_to.new.log.events c.reply_to.ensures.sound
+
+pub returns-in-Ok-put_all-clause-new : goal.returns-in-Ok-put_all-clause-new
+returns-in-Ok-put_all-clause-new g c = run-new c.args.words.now c.reply_to.new.log.events c.reply_to.ensures.sound
+
+pub returns-in-Err-Failed-clause-valid : goal.returns-in-Err-Failed-clause-valid
+returns-in-Err-Failed-clause-valid g c = run-valid c.args.words.now c.reply_to.new.log.events c.reply_to.ensures.sound
+
+pub returns-in-Err-Failed-clause-new : goal.returns-in-Err-Failed-clause-new
+returns-in-Err-Failed-clause-new g c = run-new c.args.words.now c.reply_to.new.log.events c.reply_to.ensures.sound
+
+pub returns-in-Err-Failed-clause-sound : goal.returns-in-Err-Failed-clause-sound
+returns-in-Err-Failed-clause-sound g c = λ h.
+    elim h [ inl none ↦ run-effective c.args.words.now c.reply_to.new.log.events c.reply_to.ensures.sound none | inr e ↦ absurd cc ]
+
+pub returns-clause-valid : goal.returns-clause-valid
+returns-clause-valid g c = run-valid c.args.words.now c.reply_to.new.log.events c.reply_to.ensures.sound
+
+pub returns-clause-new : goal.returns-clause-new
+returns-clause-new g c = run-new c.args.words.now c.reply_to.new.log.events c.reply_to.ensures.sound
+
+pub returns-clause-sound : goal.returns-clause-sound
+returns-clause-sound g c = λ h.
+    elim h [ inl none ↦ run-effective c.args.words.now c.reply_to.new.log.events c.reply_to.ensures.sound none | inr e ↦ absurd cc ]
+
+pub returns-in-Ok-put_all-clause-sound : goal.returns-in-Ok-put_all-clause-sound
+returns-in-Ok-put_all-clause-sound g c =
+    let words = c.args.words.now in
+    let told = g.F.Files.held c.args.files.now in
+    let after = g.F.Files.held c.reply_to.new.files in
+    let rose = Rose (g.F.Files.faults c.args.files.now) (g.F.Files.faults c.reply_to.new.files) in
+    let status = c.in-Ok.reply.status in
+    let text = c.in-Ok.reply.text.items in
+    let log = c.reply_to.new.log in
+    let case = case-of words told after rose status text log c.in-Ok.ensures.says in
+    λ h. elim h [ inl none ↦ run-effective words log.events c.reply_to.ensures.sound none | inr u ↦ (when-unknown words told after rose status text log case u).5 ]

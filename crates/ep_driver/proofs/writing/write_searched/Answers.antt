@@ -10,6 +10,9 @@ use Rattle.ep_driver.proofs.writing.write_searched.Goals as goal
 pub write_outputs-requires : goal.write_outputs-requires
 write_outputs-requires g c = record { readable = c.requires.readable (subst LogsInstance (sym c.in-One.is) tt) }
 
+pub write_outputs-requires-in-Divided : goal.write_outputs-requires-in-Divided
+write_outputs-requires-in-Divided g c = record { readable = c.requires.readable (subst LogsInstance (sym c.in-Divided.is) tt) }
+
 pub write_outputs-requires-in-Many : goal.write_outputs-requires-in-Many
 write_outputs-requires-in-Many g c = record { readable = c.requires.readable (subst LogsInstance (sym c.in-Many.is) tt) }
 
