@@ -17,7 +17,7 @@ use Rattle.ep_unroll.specs.Cells.{found_numbers, instance_cells}
 use Rattle.log_check.specs.Verdict.{first_bad, verdict_of}
 use Rattle.log_check.specs.declared.Verdict.{Verdict}
 use Rattle.log_check.specs.declared.Verdict.TheVariants.{Verified}
-use Rattle.sat_split.specs.Cubes.{AreCubeVariables, LiesIn, cube_literals, unit_of}
+use Rattle.sat_split.specs.Cubes.{AreCubeVariables, LiesInCube, cube_literals, unit_of}
 use Rattle.sat_text.specs.CnfGrammar.{SpellsCnf}
 use Rattle.sat_text.specs.LogGrammar.{SpellsLog}
 use Rattle.sat_text.specs.Notes.{added_of, notes_of}
@@ -118,7 +118,7 @@ own_clauses text clauses = take (length clauses - read_added text) clauses
 pub record AreToldIn (i : Instance) (notes : List Note) (clauses : List (List Literal)) (cube : List Literal) (numbers : List ℤ) : Type 0 where
   pub assignment : ℕ → Bool
   pub satisfies : Satisfies assignment clauses
-  pub lies_in : LiesIn cube assignment
+  pub lies_in : LiesInCube cube assignment
   pub tell : TellNumbers assignment notes (instance_cells i) numbers
 
 -- What the bytes of a formula's text say where the conflicts of a cube were spent. The clauses that were added are the cube's literals, one
