@@ -3,7 +3,7 @@ import difflib, shlex
 
 # The options of the program, with the tasks that take them, and those that each task needs.
 TASKS = {
-    "solve": ("in-eprime", ["in-param", "conflicts", "out-solution", "out-cnf", "out-log", "undefined"]),
+    "solve": ("in-eprime", ["in-param", "conflicts", "cubes", "out-solution", "out-cnf", "out-log", "undefined"]),
     "enumerate": ("in-eprime solutions", ["in-param", "conflicts", "out-solution", "out-cnf", "out-log", "undefined"]),
     "explain": ("in-eprime", ["in-param", "conflicts", "undefined"]),
     "opb": ("in-opb", ["conflicts"]),

@@ -97,6 +97,11 @@ const WRITTEN: &str = "\
 find a, b, c, d : int(1..3)@such that allDiff([a, b, c, d])@#--in-eprime m#$ no solution@#$ verified@
 find x : int(1..3)@maximising x@such that x < 3@#--in-eprime m#$ optimum 2@letting x be 2@#$ verified@
 find x : int(1..3)@such that x > 2@#--in-eprime m#$ solution@letting x be 3@#$ no empty clause@
+find a, b, c, d : int(1..3)@such that allDiff([a, b, c, d])@#--in-eprime m --cubes 1#$ no solution@#$ verified@
+find a, b, c, d : int(1..3)@such that allDiff([a, b, c, d])@#--in-eprime m --cubes 2#$ no solution@#$ verified@
+find a, b, c, d : int(1..3)@such that allDiff([a, b, c, d])@#--in-eprime m --cubes 6#$ no solution@#$ verified@
+find x : int(1..3)@maximising x@such that x < 3@#--in-eprime m --cubes 3#$ optimum 2@letting x be 2@#$ verified@
+find x : int(1..3)@such that x > 2@#--in-eprime m --cubes 2#$ solution@letting x be 3@#$ no empty clause@
 find x : int(1..1)@#--task enumerate --solutions all --in-eprime m#$ solution 1@letting x be 1@$ complete@#$ verified@";
 
 /// Whether an answer is put out and held as `s` by a run over a model, which writes a formula and a log.
@@ -187,7 +192,8 @@ fn a_header_covers_the_notes(rt: HostRuntime) -> Result<(), Fail> {
 }
 
 /// Words with every option of a search.
-const OPTIONS: [&str; 2] = [
+const OPTIONS: [&str; 3] = [
+    "--task solve --in-eprime m --in-param p --cubes 2 --conflicts 1000 --undefined strict --out-cnf f --out-log l --out-solution s",
     "--task solve --in-eprime m --in-param p --conflicts 1000 --undefined strict --out-cnf f --out-log l --out-solution s",
     "--task enumerate --in-eprime m --in-param p --solutions 3 --conflicts 1000 --undefined=strict --out-cnf f --out-log l --out-solution s",
 ];

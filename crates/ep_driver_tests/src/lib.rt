@@ -6,6 +6,8 @@ mod calls;
 #[cfg(test)]
 mod certificates;
 #[cfg(test)]
+mod cubed;
+#[cfg(test)]
 mod devices;
 #[cfg(test)]
 mod explained;
