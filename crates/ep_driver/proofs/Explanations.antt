@@ -34,7 +34,7 @@ told-ends mode i conflicts log told status e h sound = searched conflicts status
 -- what is told settles what is asked
 pub told-settles : (mode : Mode) (i : Instance) (conflicts : ℕ) (log : LogState) (told : Told) (status : Status) → status ≡ spent_status told.is_open → IsTold mode i conflicts log told → Settles (to_explain mode i conflicts) status told.text.items log
 unfolding Settles
-told-settles mode i conflicts log told status e h = (h.said, h.right, e ∙ ap spent_status h.ends, h.text_is)
+told-settles mode i conflicts log told status e h = (h.said, h.right, h.logged, e ∙ ap spent_status h.ends, h.text_is)
 
 -- what is right is so of the instance, whatever the log shows
 pub explanation_true : (mode : Mode) (i : Instance) (conflicts : ℕ) (status : Status) (text : List ℕ) (log : LogState) (said : Explained) → IsRightExplanation mode i conflicts log said → status ≡ explanation_status said → text ≡ explanation_text conflicts said

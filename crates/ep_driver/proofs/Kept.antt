@@ -157,7 +157,7 @@ search_true held mode (Request.One conflicts) model params outputs i status text
 search_true held mode (Request.Divided cubes conflicts) model params outputs i status text log make h = (i, make, h.0, answer_true mode i conflicts h.0 h.1, h.3, h.4)
 search_true held mode (Request.Many most conflicts) model params outputs i status text log make h =
     (i, make, h.0, record { solutions = h.1.solutions; different = h.1.different; none_lacks = none_lacks mode i conflicts most log h.0.found h.0.ending h.1.ends }, h.2, h.3)
-search_true held mode (Request.Explained conflicts) model params outputs i status text log make h = (i, make, explanation_true mode i conflicts status text log h.0 h.1 h.2 h.3)
+search_true held mode (Request.Explained conflicts) model params outputs i status text log make h = (i, make, explanation_true mode i conflicts status text log h.0 h.1 h.3 h.4)
 search_true held mode (Request.Generated number conflicts) model params outputs i status text log make h = tt
 
 judge_true : (held : Held) (mode : Mode) (model : List ℕ) (params : Option (List ℕ)) (name : List ℕ) (i : Instance) (s : TextTree) (own : List ℕ) (status : Status) (text : List ℕ) (log : LogState) (shape : Shaped)

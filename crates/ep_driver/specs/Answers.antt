@@ -11,7 +11,7 @@ use Rattle.log_check.specs.Verdict.{verdict_of}
 use Rattle.log_check.specs.declared.Verdict.{Verdict}
 use Rattle.log_check.specs.declared.Verdict.TheVariants.{BadStep, NoEmptyClause, Verified}
 use Rattle.ep_divided.specs.Divided.{IsLoggedInCubes}
-use Rattle.ep_explain.specs.Tried.{IsRightExplanation, ends_spent}
+use Rattle.ep_explain.specs.Tried.{IsLogOfAttempt, IsRightExplanation, ends_spent}
 use Rattle.ep_explain.specs.declared.explaining.Explained.{Explained}
 use Rattle.ep_explain_text.specs.ExplanationTexts.{explanation_text}
 use Rattle.ep_solve.specs.Listed.{Lists}
@@ -81,7 +81,7 @@ Settles (to_list mode i most conflicts) status text log =
     (listing : ListingTree) × Lists mode i conflicts most log listing
     × (status ≡ listing_status listing.ending) × (text ≡ listing_text listing)
 Settles (to_explain mode i conflicts) status text log =
-    (said : Explained) × IsRightExplanation mode i conflicts log said
+    (said : Explained) × IsRightExplanation mode i conflicts log said × IsLogOfAttempt mode i conflicts log
     × (status ≡ explanation_status said) × (text ≡ explanation_text conflicts said)
 Settles (to_judge mode i (fits a)) status text log =
     (found : Found) × Fits i a found

@@ -36,7 +36,8 @@ pub record FilesMake (held : Held) (mode : Mode) (model : List ℕ) (params : Op
   pub make : Make mode text given i
 
 -- What is told of an instance is so, its objective aside: that an assignment is a solution; or that some of its clauses have no solution
--- together, and beside each of them a solution of it with all others of them alone; or that the conflicts were spent.
+-- together, and beside each of them a solution of it with all others of them alone; or it is said that the conflicts were spent, by which
+-- nothing more is promised.
 abbrev pub IsExplanation : Mode → Instance → ℕ → Status → List ℕ → Type 0
 IsExplanation mode i conflicts status text =
     ((status ≡ Status.Answered) × (a : Assigned) × IsWrittenSolution mode (without_goal i) a × (text ≡ answer_text (solution a)))
@@ -44,7 +45,7 @@ IsExplanation mode i conflicts status text =
     ⊎ ((status ≡ Status.Unknown) × (text ≡ answer_text (unknown conflicts)))
 
 -- What was put out is the text of an answer, or of a list of solutions, that is true of the instance which the files make; or of what
--- explains why that has no solution; or it says with status 0 that the assignment of a solution text is a solution, and that is so; or it is the lines of an answer that is right
+-- is told of why that has no solution, or that it has one; or it says with status 0 that the assignment of a solution text is a solution, and that is so; or it is the lines of an answer that is right
 -- for the pseudo-Boolean problem that the file's text spells.
 unfoldable pub IsPromised : Held → Wanted → Status → List ℕ → Type 0
 IsPromised held (Wanted.Search model params mode (Request.One conflicts) outputs) status text =

@@ -1,7 +1,7 @@
 -- What an attempt says, and what is explained by attempts.
 use Rattle.std.specs.Prelude.{ℕ, Bool, true, false, List, map}
 use Rattle.cnf_core.specs.Events.{LogState}
-use Rattle.ep_print.specs.Answers.{unknown}
+use Rattle.ep_print.specs.Answers.{AnswerTree, unknown}
 use Rattle.ep_restrict.specs.Restricted.{AreClauseNumbers, restricted}
 use Rattle.ep_solve.specs.Logged.{IsLogged}
 use Rattle.ep_tree.specs.Binding.{Instance}
@@ -14,6 +14,18 @@ use Rattle.ep_explain.specs.declared.explaining.Explained.{Explained}
 use Rattle.ep_explain.specs.declared.explaining.Explained.TheVariants.{Core, Satisfiable, Spent as SpentOn}
 use Rattle.ep_explain.specs.declared.tries.Tried.{Tried}
 use Rattle.ep_explain.specs.declared.tries.Tried.TheVariants.{Empty, Found, Spent}
+
+-- a log shows some answer for an instance, of a search that may spend so many conflicts
+abbrev pub ShowsSome : Mode → Instance → ℕ → LogState → Type 0
+ShowsSome mode i budget log = (answer : AnswerTree) × IsLogged mode i budget log answer
+
+-- so much is shown of an instance with some of its clauses alone
+abbrev pub IsShownOfSome : (Instance → Type 0) → Instance → Type 0
+IsShownOfSome shown i = (numbers : List ℕ) × AreClauseNumbers i numbers × shown (restricted i numbers)
+
+-- a log is that of an attempt at an instance with some of its clauses alone, and shows some answer for it
+abbrev pub IsLogOfAttempt : Mode → Instance → ℕ → LogState → Type 0
+IsLogOfAttempt mode i budget log = IsShownOfSome (λ fewer. ShowsSome mode fewer budget log) i
 
 -- so many conflicts were spent on an instance without an answer, and the log shows it
 abbrev pub IsSpentOn : Mode → Instance → ℕ → LogState → Type 0

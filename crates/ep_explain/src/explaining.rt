@@ -4,7 +4,7 @@ ghost use Rattle.std.specs.Prelude.{◌≡◌, ◌+◌, ◌<◌, ◌≤◌, [], 
 ghost use Rattle.std.specs.List.{All};
 ghost use Rattle.ep_base.specs.Reads.{IsWithinNumbers};
 ghost use Rattle.ep_explain.specs.Narrowing.{IsAllSettled, AreLeft, IsNarrowed, settled_clause};
-ghost use Rattle.ep_explain.specs.Tried.{IsRightExplanation, IsRightTry, IsSpentAt, ends_spent, was_spent, named_clause};
+ghost use Rattle.ep_explain.specs.Tried.{IsRightExplanation, IsRightTry, IsShownOfSome, IsSpentAt, ends_spent, was_spent, named_clause};
 ghost use Rattle.ep_instance_parts.specs.Instances.{instance_mode, plain_instance};
 ghost use Rattle.ep_restrict.specs.Restricted.{AreClauseNumbers, restricted};
 ghost use Rattle.ep_tree.specs.Closed.{IsClosed};
@@ -58,6 +58,8 @@ fn attempt_at<T: Tries>(
     ensures right { IfOk result (IsRightTry (instance_mode instance.now) (restricted (plain_instance instance.now) keep.now)
         (T.budget tries.new) (T.log tries.new)) }
     ensures spent { IfOk result (λ tried. T.spent tries.new ≡ was_spent tried) }
+    ensures shown { IfOk result (λ _. T.shown tries.new (instance_mode instance.now)
+        (restricted (plain_instance instance.now) keep.now)) }
     ensures budget { T.budget tries.new ≡ T.budget tries.old }
     ensures sound { IsSound (T.log tries.old).events → IsSound (T.log tries.new).events }
 {
@@ -83,6 +85,7 @@ fn try_without<T: Tries>(
     ensures right { IfOk result (λ r. IfSome r.1 (λ numbers. IsSpentAt (instance_mode instance.now)
         (plain_instance instance.now) (T.budget tries.new) (T.log tries.new) numbers.items)) }
     ensures spent { IfOk result (λ r. T.spent tries.new ≡ is_some r.1) }
+    ensures shown { IfOk result (λ _. IsShownOfSome (T.shown tries.new (instance_mode instance.now)) (plain_instance instance.now)) }
     ensures budget { T.budget tries.new ≡ T.budget tries.old }
     ensures sound { IsSound (T.log tries.old).events → IsSound (T.log tries.new).events }
 {
@@ -121,10 +124,12 @@ fn leave_out_blocks<T: Tries>(
     requires values { All (λ f. All IsWithinNumbers f.values) (plain_instance instance.now).finds }
     requires narrowed { IsNarrowed (instance_mode instance.now) (plain_instance instance.now) narrowed }
     requires spent { T.spent tries.old ≡ false }
+    requires shown { IsShownOfSome (T.shown tries.old (instance_mode instance.now)) (plain_instance instance.now) }
     ensures narrowed { IfOk result (λ r. IsNarrowed (instance_mode instance.now) (plain_instance instance.now) r.0) }
     ensures right { IfOk result (λ r. IfSome r.1 (λ numbers. IsSpentAt (instance_mode instance.now)
         (plain_instance instance.now) (T.budget tries.new) (T.log tries.new) numbers.items)) }
     ensures spent { IfOk result (λ r. T.spent tries.new ≡ is_some r.1) }
+    ensures shown { IfOk result (λ _. IsShownOfSome (T.shown tries.new (instance_mode instance.now)) (plain_instance instance.now)) }
     ensures budget { T.budget tries.new ≡ T.budget tries.old }
     ensures sound { IsSound (T.log tries.old).events → IsSound (T.log tries.new).events }
 {
@@ -178,6 +183,7 @@ fn leave_out_at<T: Tries>(
     ensures right { IfOk result (λ r. IfSome r.1 (λ numbers. IsSpentAt (instance_mode instance.now)
         (plain_instance instance.now) (T.budget tries.new) (T.log tries.new) numbers.items)) }
     ensures spent { IfOk result (λ r. T.spent tries.new ≡ is_some r.1) }
+    ensures shown { IfOk result (λ _. IsShownOfSome (T.shown tries.new (instance_mode instance.now)) (plain_instance instance.now)) }
     ensures budget { T.budget tries.new ≡ T.budget tries.old }
     ensures sound { IsSound (T.log tries.old).events → IsSound (T.log tries.new).events }
 {
@@ -210,11 +216,13 @@ fn leave_out_single<T: Tries>(
     requires values { All (λ f. All IsWithinNumbers f.values) (plain_instance instance.now).finds }
     requires left { AreLeft (instance_mode instance.now) (plain_instance instance.now) left.items }
     requires spent { T.spent tries.old ≡ false }
+    requires shown { IsShownOfSome (T.shown tries.old (instance_mode instance.now)) (plain_instance instance.now) }
     ensures left { IfOk result (λ r. AreLeft (instance_mode instance.now) (plain_instance instance.now) r.0.items) }
     ensures settled { IfOk result (λ r. r.1 ≡ None → IsAllSettled r.0.items) }
     ensures right { IfOk result (λ r. IfSome r.1 (λ numbers. IsSpentAt (instance_mode instance.now)
         (plain_instance instance.now) (T.budget tries.new) (T.log tries.new) numbers.items)) }
     ensures spent { IfOk result (λ r. T.spent tries.new ≡ is_some r.1) }
+    ensures shown { IfOk result (λ _. IsShownOfSome (T.shown tries.new (instance_mode instance.now)) (plain_instance instance.now)) }
     ensures budget { T.budget tries.new ≡ T.budget tries.old }
     ensures sound { IsSound (T.log tries.old).events → IsSound (T.log tries.new).events }
 {
@@ -270,6 +278,7 @@ pub fn explain<T: Tries>(
     ensures right { IfOk result (IsRightExplanation (instance_mode instance.now) (plain_instance instance.now)
         (T.budget tries.new) (T.log tries.new)) }
     ensures spent { IfOk result (λ said. T.spent tries.new ≡ ends_spent said) }
+    ensures shown { IfOk result (λ _. IsShownOfSome (T.shown tries.new (instance_mode instance.now)) (plain_instance instance.now)) }
     ensures budget { T.budget tries.new ≡ T.budget tries.old }
     ensures sound { IsSound (T.log tries.old).events → IsSound (T.log tries.new).events }
 {

@@ -1,6 +1,7 @@
 //! Attempts by clauses and the solver.
 
 ghost use Rattle.std.specs.Prelude.{◌≡◌, false};
+ghost use Rattle.ep_explain.specs.Tried.{ShowsSome};
 ghost use Rattle.ep_solve.specs.Right.{empty_log};
 
 use crate::tries::{Tried, Tries};
@@ -47,6 +48,8 @@ impl Tries for Searches {
     ghost log = { λ searches. searches.log };
 
     ghost spent = { λ searches. searches.spent };
+
+    ghost shown = { λ searches mode i. ShowsSome mode i searches.conflicts searches.log };
 
     fn attempt(&mut self, alloc: Global, instance: &Instance) -> Result<Tried, Memory> {
         self.log = Log::new(alloc);

@@ -5,7 +5,7 @@ use Rattle.std.specs.List.{All}
 use Rattle.std.proofs.lemmas.List.Elements.{All-weaker}
 use Rattle.cnf_core.specs.Events.{LogState}
 use Rattle.ep_explain.specs.Explained.{Core, Explains, IsWrittenSolution, all_but, core_numbers}
-use Rattle.ep_explain.specs.Tried.{IsRightExplanation, named_clause}
+use Rattle.ep_explain.specs.Tried.{IsLogOfAttempt, IsRightExplanation, named_clause}
 use Rattle.ep_explain.specs.declared.explaining.Explained.{Explained}
 use Rattle.ep_explain.specs.declared.explaining.Explained.TheVariants.{Core as NamedClauses, Satisfiable, Spent}
 use Rattle.ep_print.specs.Answers.{AreTyped}
@@ -36,3 +36,8 @@ pub told_right : (mode : Mode) (i : Instance) (b budget : ℕ) (l log : LogState
     → IsRightExplanation mode i b l said → IsRightExplanation mode i budget log said
 told_right mode i b budget l log said same is right =
     subst (λ n. IsRightExplanation mode i n log said) same (subst (λ k. IsRightExplanation mode i b k said) (sym is) right)
+
+-- a log of an attempt, by an equal budget and an equal log
+pub told_logged : (mode : Mode) (i : Instance) (b budget : ℕ) (l log : LogState) → b ≡ budget → log ≡ l → IsLogOfAttempt mode i b l → IsLogOfAttempt mode i budget log
+told_logged mode i b budget l log same is it =
+    subst (λ n. IsLogOfAttempt mode i n log) same (subst (IsLogOfAttempt mode i b) (sym is) it)

@@ -6,7 +6,7 @@ use Rattle.ep_explain.specs.Explained.{HasNoSolution, IsWrittenSolution, all_but
 use Rattle.ep_explain.specs.Narrowing.{AreLeft, IsAllSettled, left_numbers}
 use Rattle.ep_explain.specs.declared.left.Left.{Left}
 use Rattle.std.specs.Prelude.{List}
-use Rattle.ep_explain.proofs.Asking.{empty_none, empty_unspent, found_shown, found_unspent, spent_at, spent_spent}
+use Rattle.ep_explain.proofs.Asking.{empty_none, empty_unspent, found_shown, found_unspent, shown_of, spent_at, spent_spent}
 use Rattle.ep_explain.proofs.Leaving.{numbers_filtered}
 use Rattle.ep_explain.proofs.Single.{found_at, found_within, left_removed, removed_within, settled_found, settled_gone}
 use Rattle.ep_explain.proofs.explaining.leave_out_at.Goals as goal
@@ -29,6 +29,8 @@ returns-in-Found g c =
     c.deref-2.ensures.value ∙ c.in_ok-keep.ensures ∙ ap (λ ls. all_but c.index.result.now.clause (left_numbers ls)) c.deref.ensures.value in
     let shown : IsWrittenSolution mode (restricted i c.deref-2.result.now) (assigned c.in-Found.a) =
     found_shown mode (restricted i c.deref-2.result.now) _ _ _ _ c.in-Found.is c.in_ok-tried.ensures.right in
+    let are : AreClauseNumbers i c.deref-2.result.now = subst (AreClauseNumbers i) (sym kept)
+    (numbers_filtered i (λ k. not (k == c.index.result.now.clause)) (left_numbers c.args.left.items) c.requires.left.numbers) in
     record {
       left = found_at mode i c.args.left.items c.args.place c.index.result.now c.index_mut.result.now c.deref-2.result.now c.in-Found.a c.requires.left c.index.ensures
           c.index_mut.ensures.value c.requires.there kept shown;
@@ -36,6 +38,7 @@ returns-in-Found g c =
       settled = λ _ rest. settled_found c.args.left.items c.args.place c.index_mut.result.now c.in-Found.a c.requires.there rest;
       right = tt;
       spent = found_unspent _ _ _ c.in_ok-tried.ensures.spent c.in-Found.is;
+      shown = shown_of _ i c.deref-2.result.now are c.in_ok-tried.ensures.shown;
       budget = c.in_ok-tried.ensures.budget;
       sound = c.in_ok-tried.ensures.sound;
     }
@@ -47,6 +50,8 @@ returns-in-Empty g c =
     let kept : c.deref-2.result.now ≡ all_but c.index.result.now.clause (left_numbers c.args.left.items) =
     c.deref-2.ensures.value ∙ c.in_ok-keep.ensures ∙ ap (λ ls. all_but c.index.result.now.clause (left_numbers ls)) c.deref.ensures.value in
     let none : HasNoSolution mode (restricted i c.deref-2.result.now) = empty_none mode (restricted i c.deref-2.result.now) _ _ _ c.in-Empty.is c.in_ok-tried.ensures.right in
+    let are : AreClauseNumbers i c.deref-2.result.now = subst (AreClauseNumbers i) (sym kept)
+    (numbers_filtered i (λ k. not (k == c.index.result.now.clause)) (left_numbers c.args.left.items) c.requires.left.numbers) in
     record {
       left = subst (AreLeft mode i) (sym c.remove.ensures.items)
           (left_removed mode i c.args.left.items c.args.place c.index.result.now c.deref-2.result.now c.requires.left c.requires.there c.index.ensures kept none);
@@ -54,6 +59,7 @@ returns-in-Empty g c =
       settled = λ _ rest. subst (λ (ls : List Left). IsAllSettled (drop c.args.place ls)) (sym c.remove.ensures.items) (settled_gone c.args.left.items c.args.place c.requires.there rest);
       right = tt;
       spent = empty_unspent _ _ c.in_ok-tried.ensures.spent c.in-Empty.is;
+      shown = shown_of _ i c.deref-2.result.now are c.in_ok-tried.ensures.shown;
       budget = c.in_ok-tried.ensures.budget;
       sound = c.in_ok-tried.ensures.sound;
     }
@@ -70,3 +76,12 @@ returns-in-Spent-clause-right g c =
 
 pub returns-in-Spent-clause-spent : goal.returns-in-Spent-clause-spent
 returns-in-Spent-clause-spent g c = spent_spent _ _ c.in_ok-tried.ensures.spent c.in-Spent.is
+
+pub returns-in-Spent-clause-shown : goal.returns-in-Spent-clause-shown
+returns-in-Spent-clause-shown g c =
+    let i = plain_instance c.args.instance.now in
+    let kept : c.deref-2.result.now ≡ all_but c.index.result.now.clause (left_numbers c.args.left.items) =
+    c.deref-2.ensures.value ∙ c.in_ok-keep.ensures ∙ ap (λ ls. all_but c.index.result.now.clause (left_numbers ls)) c.deref.ensures.value in
+    let are : AreClauseNumbers i c.deref-2.result.now = subst (AreClauseNumbers i) (sym kept)
+    (numbers_filtered i (λ k. not (k == c.index.result.now.clause)) (left_numbers c.args.left.items) c.requires.left.numbers) in
+    shown_of _ i c.deref-2.result.now are c.in_ok-tried.ensures.shown

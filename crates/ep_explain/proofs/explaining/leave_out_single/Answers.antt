@@ -12,6 +12,7 @@ loop-place-preserved g c =
       settled = c.in_ok-after.ensures.settled (is_none _ _ c.is_some-in-loop-place.ensures c.if-is_some-2.false)
           (subst (λ n. IsAllSettled (drop n c.loop-place.left.items)) next c.loop-place.invariant.settled);
       spent = c.in_ok-after.ensures.spent ∙ sym c.is_some-in-loop-place.ensures ∙ c.if-is_some-2.false;
+      shown = c.in_ok-after.ensures.shown;
       budget = c.in_ok-after.ensures.budget ∙ c.loop-place.invariant.budget;
       sound = λ before. c.in_ok-after.ensures.sound (c.loop-place.invariant.sound before);
     }

@@ -10,6 +10,7 @@ returns-in-Solution c = record {
   right = found_right (instance_mode c.args.instance.now) (plain_instance c.args.instance.now) c.args.self.now.conflicts c.solve.new.log c.in_ok-answer.answer c.in-Solution.a c.in-Solution.is
       c.in_ok-answer.ensures.right c.in_ok-answer.ensures.typed;
   spent = refl;
+  shown = (_, c.in_ok-answer.ensures.logged);
   budget = refl;
   sound = c.in_ok-answer.ensures.sound;
 }
@@ -20,6 +21,7 @@ returns-in-NoSolution c = record {
   right = empty_right (instance_mode c.args.instance.now) (plain_instance c.args.instance.now) c.args.self.now.conflicts c.solve.new.log c.in_ok-answer.answer c.in-NoSolution.is
       c.in_ok-answer.ensures.right;
   spent = refl;
+  shown = (_, c.in_ok-answer.ensures.logged);
   budget = refl;
   sound = c.in_ok-answer.ensures.sound;
 }
@@ -30,6 +32,7 @@ returns-in-Unknown c = record {
   right = spent_right (instance_mode c.args.instance.now) (plain_instance c.args.instance.now) c.args.self.now.conflicts c.in-Unknown.conflicts c.solve.new.log c.in_ok-answer.answer
       c.in-Unknown.incumbent c.requires.plain c.in-Unknown.is c.in_ok-answer.ensures.right c.in_ok-answer.ensures.logged;
   spent = refl;
+  shown = (_, c.in_ok-answer.ensures.logged);
   budget = refl;
   sound = c.in_ok-answer.ensures.sound;
 }
