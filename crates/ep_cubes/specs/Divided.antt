@@ -12,8 +12,8 @@ use Rattle.sat_split.specs.Cubes.{AreCubeVariables, LiesInCube, cube_literals}
 use Rattle.sat_cubes.specs.Answers.{NoneBelow, AreRefutedWithin, IsJoinedLog, IsUnsat, IsSpentIn}
 use Rattle.ep_answer.specs.Answered.{FoundCells, solution, optimum, no_solution, unknown}
 
--- An assignment that satisfies the formula in a cube gives the cells these numbers. Nothing in a lower cube satisfies the formula, each of these
--- is refuted within the budget, and the events refute it.
+-- An assignment that satisfies the formula in a cube gives the cells these numbers. Each lower cube is refuted within the budget and by an
+-- event, and nothing in it satisfies the formula.
 pub record IsFoundInCube (layout : List VariableLiterals) (m : MapState) (f : Cnf) (vars : List ℕ) (budget : ℕ) (events : List LogEvent) (cells : List ℤ) : Type 0 where
   pub cube : ℕ
   pub is_cube : cube < 2 ^ length vars

@@ -22,8 +22,8 @@ pub record AreToldInCube (i : Instance) (log : LogState) (vars : List ℕ) (cube
   pub lies_in : LiesInCube (cube_literals cube vars) assignment
   pub tell : TellNumbers assignment log.notes (instance_cells i) numbers
 
--- A solution is told in a cube. Nothing in a lower cube satisfies what stands for the instance, each of these is refuted within the budget,
--- and an event of the log refutes it. Nothing was added to what stands for the instance.
+-- A solution is told in a cube. Each lower cube is refuted within the budget and by an event of the log, and nothing in it satisfies what
+-- stands for the instance. Nothing was added to that.
 pub record IsSolutionInCube (i : Instance) (vars : List ℕ) (budget : ℕ) (log : LogState) (a : Assigned) : Type 0 where
   pub cube : ℕ
   pub is_cube : cube < 2 ^ length vars
@@ -40,8 +40,8 @@ pub record IsRefutedByCubes (vars : List ℕ) (budget : ℕ) (log : LogState) : 
   pub added : added_clauses log ≡ []
 
 -- The budget was spent in a cube: as many steps have a literal, each of these is new and effective, and no clause is empty. The cube's literals
--- were added as clauses of their own, and what is left are exactly the solutions that are told in the cube. Nothing in a lower cube satisfies
--- what stands for the instance, and each of these is refuted within the budget.
+-- were added as clauses of their own, and what is left are exactly the solutions that are told in the cube. Each lower cube is refuted within
+-- the budget, and nothing in it satisfies what stands for the instance.
 pub record IsSpentInCube (mode : Mode) (i : Instance) (vars : List ℕ) (budget : ℕ) (log : LogState) : Type 0 where
   pub cube : ℕ
   pub is_cube : cube < 2 ^ length vars

@@ -32,7 +32,7 @@ CanBeRequested (Request.Many most conflicts) outputs = Unit {0}
 CanBeRequested (Request.Explained conflicts) outputs = outputs ≡ no_outputs
 CanBeRequested (Request.Generated number conflicts) outputs = Unit {0}
 
--- what words can want: where the texts of a number are wanted, it is one that has texts
+-- what words can want: cubes and files for output as they can be requested, and where the texts of a number are wanted, one that has texts
 abbrev pub CanBeWanted : Wanted → Type 0
 CanBeWanted (Wanted.Search model params mode request outputs) = CanBeRequested request outputs
 CanBeWanted (Wanted.Opb opb conflicts) = Unit {0}

@@ -141,8 +141,8 @@ TellsTask names shows told rose log (Err (Stop.Refused refusal)) =
     IsFailed names shows told rose refusal ⊎ IsFaulty shows told refusal
 TellsTask names shows told rose log (Err Stop.Memory) = OrUnlogged log (IfSome told (λ held. (task : Task) × shows held (Ok task)))
 
--- How a search within so many conflicts may end: with its answer, or with as many steps in the log. Then the steps of the log are
--- valid, and those with a literal new and effective; and in any case they are as is said first.
+-- How a search within so many conflicts may end: with its answer, or with as many steps in the log, which are then valid, and those with a
+-- literal new and effective. Whichever it is, the first argument holds.
 abbrev pub IsSearchedWith : Type 0 → ℕ → Status → LogState → Type 0
 IsSearchedWith steps conflicts status log =
     steps × ((status ≡ Status.Answered) ⊎ ((status ≡ Status.Unknown) × IsSpent conflicts log.events × IsSound log.events))
@@ -175,7 +175,7 @@ IsLogOf (Wanted.Verify _ _ _ _) log = log ≡ empty_log
 IsLogOf (Wanted.Check _ _ _) log = log ≡ empty_log
 IsLogOf (Wanted.Generate _ _ _ _) log = Unit {0}
 
--- an answer ends so; nothing is logged where there is a refusal, and where memory is wanting the steps are as is said first
+-- an answer ends so; nothing is logged where there is a refusal, and where memory is wanting the first argument holds
 abbrev pub EndsBy : Type 0 → (Status → Type 0) → LogState → Result Reply Stop → Type 0
 EndsBy steps End log (Ok reply) = End reply.status
 EndsBy steps End log (Err (Stop.Refused refusal)) = log ≡ empty_log

@@ -31,13 +31,15 @@ abbrev pub IsWitnessed : Mode → Instance → List ℕ → Left → Type 0
 IsWitnessed mode i numbers one =
     IfSome one.without (λ a. IsWrittenSolution mode (restricted i (all_but one.clause numbers)) (assigned a))
 
--- The clauses that are left have no common solution.
+-- The clauses that are left, by ascending numbers, have no common solution, and each that is known to stay has an assignment that makes the
+-- others true.
 pub record AreLeft (mode : Mode) (i : Instance) (left : List Left) : Type 0 where
   pub numbers : AreClauseNumbers i (left_numbers left)
   pub none : HasNoSolution mode (restricted i (left_numbers left))
   pub settled : All (IsWitnessed mode i (left_numbers left)) left
 
--- An assignment that was found makes each of some clauses true but those that it is known to violate.
+-- An assignment that was found fits, is written as the instance states it, with values of their types, and makes each of some clauses true,
+-- perhaps but for those that are listed with it.
 pub record IsSeen (mode : Mode) (i : Instance) (numbers : List ℕ) (one : Seen) : Type 0 where
   pub found : Found
   pub fits : Fits i (assigned one.assignment) found
@@ -45,7 +47,7 @@ pub record IsSeen (mode : Mode) (i : Instance) (numbers : List ℕ) (one : Seen)
   pub typed : AreTyped (assigned one.assignment)
   pub holds : All (λ n. (Contains one.violated.items n → ⊥) → IsTrueAt mode i found n) numbers
 
--- The same of all that is kept.
+-- Both of all that is kept: the clauses that are left, and the assignments that were found.
 pub record IsNarrowed (mode : Mode) (i : Instance) (narrowed : Narrowed) : Type 0 where
   pub left : AreLeft mode i narrowed.left.items
   pub seen : All (IsSeen mode i (left_numbers narrowed.left.items)) narrowed.seen.items

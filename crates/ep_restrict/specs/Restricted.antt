@@ -12,7 +12,7 @@ pub record AreClauseNumbers (i : Instance) (numbers : List ℕ) : Type 0 where
   pub ascending : IsStrictlyIncreasing numbers
   pub there : All (λ n. (1 ≤ n) × (n ≤ length i.clauses)) numbers
 
--- the clauses with these numbers, in their order
+-- the clauses with these numbers, in their order, of those that are there
 unfoldable pub numbered_clauses : List ExprTree → List ℕ → List ExprTree
 numbered_clauses clauses numbers = flat_map (λ n. option_to_list (slice_get clauses (n - 1))) numbers
 

@@ -48,8 +48,8 @@ pub record IsJoinedLog (clauses : List (List Literal)) (vars : List ℕ) (cubes 
   pub new : NonEmptyStepsAreNew events
   pub refuted : (c : ℕ) → c < cubes → IsRefutedIn events (cube_literals c vars)
 
--- The values satisfy the formula and lie in a cube. Nothing in a lower cube does, each of these is refuted within the budget, and the joined
--- events refute it.
+-- The values satisfy the formula and lie in a cube. Each lower cube is refuted within the budget and by one of the joined events, and nothing
+-- in it satisfies the formula.
 pub record IsSatIn (f : Cnf) (vars : List ℕ) (cube budget : ℕ) (values : List Bool) (events : List LogEvent) : Type 0 where
   pub is_cube : cube < 2 ^ length vars
   pub count : length values ≡ f.vars
@@ -67,8 +67,8 @@ pub record IsUnsat (f : Cnf) (vars : List ℕ) (budget : ℕ) (events : List Log
   pub ends : EndsWithEmptyStep events
 
 -- The events are a cube's own: the formula's clauses and the cube's literals are given, nothing else is, and each step is valid. As many steps
--- have a literal as the budget allows, each of them is new and effective, and no clause is empty. Nothing in a lower cube satisfies the formula,
--- and each of these is refuted within the budget.
+-- have a literal as the budget allows, each of them is new and effective, and no clause is empty. Each lower cube is refuted
+-- within the budget, and nothing in it satisfies the formula.
 pub record IsSpentIn (f : Cnf) (vars : List ℕ) (cube budget : ℕ) (events : List LogEvent) : Type 0 where
   pub is_cube : cube < 2 ^ length vars
   pub steps : List LogEvent

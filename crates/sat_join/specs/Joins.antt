@@ -24,7 +24,8 @@ pub record IsRefutation (clauses : List (List Literal)) (literals : List Literal
   pub valid : IsValidLog events
   pub ends : EndsWithEmptyStep events
 
--- the formula's clauses are given in order, nothing else is, and each step is valid
+-- a log of the formula: its clauses are given in order, nothing else is, each step is valid, and no clause has a literal twice or with its
+-- negation
 pub record IsJoined (clauses : List (List Literal)) (events : List LogEvent) : Type 0 where
   pub steps : List LogEvent
   pub events_are : events ≡ all_given clauses ++ steps
@@ -41,7 +42,8 @@ abbrev pub IsOfCubes : List (List Literal) → List ℕ → ℕ → List Literal
 IsOfCubes clauses vars cubes clause =
     Contains clauses clause ⊎ ((c : ℕ) × (c < cubes) × HasNegations (cube_literals c vars) clause)
 
--- the steps of the first cubes are joined, and at the places of ends each of them is refuted
+-- A log of the formula refutes each of the first cubes, at its place among the ends. Each clause of it is the formula's, or has the negations
+-- of one of these cubes.
 pub record IsJoint (clauses : List (List Literal)) (vars ends : List ℕ) (events : List LogEvent) : Type 0 where
   pub joined : IsJoined clauses events
   pub refuted : (c : ℕ) → c < length ends → IsRefutedAt events (cube_literals c vars) (slice_index_or ends c 0)
@@ -70,8 +72,8 @@ pub record CanJoin (clauses : List (List Literal)) (vars ends : List ℕ) (refut
   pub refutation : IsRefutation clauses (cube_literals (length ends) vars) refuted
   pub joint : IsJoint clauses vars ends joined
 
--- where the clause of a hint of a cube's step stands in the joined log, in which the cube's first step has the place first: nowhere, if
--- one of the cube's literals makes it true
+-- Where the clause of a hint of a cube's step stands in the joined log, in which the cube's first step has the place first. A clause of the
+-- formula that one of the cube's literals makes true may be left out; a literal of the cube stands nowhere.
 abbrev pub IsPlace : List (List Literal) → List Literal → ℕ → ℕ → Option ℕ → Type 0
 IsPlace clauses literals first hint (Some place) =
     ((hint < length clauses) × (place ≡ hint))

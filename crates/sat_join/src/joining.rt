@@ -34,6 +34,7 @@ pub(crate) fn refute(
 
 /// Joins the steps of the next cube, which has no solution, and keeps the place of an event each of whose literals is false in it. The log of
 /// the cube may be any solver's. Where its steps are effective, as this project's are, those that are joined are new.
+/// After want of memory nothing is said of what is joined: the caller drops it.
 ///
 /// Costs the literals of its steps and hints, and a look at each event of the joined log.
 pub fn join_cube(

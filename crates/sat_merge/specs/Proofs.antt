@@ -30,7 +30,7 @@ ArePlaces ids (hint ∷ hints) places =
     (IsNoId ids hint × (places ≡ []))
     ⊎ ((place : ℕ) × (rest : List ℕ) × (places ≡ place ∷ rest) × IsPlaceOf ids hint place × ArePlaces ids hints rest)
 
--- so many ids, from one on
+-- so many ids, from the first on
 abbrev pub ids_on : ℕ → ℕ → List ℕ
 ids_on first zero = []
 ids_on first (suc more) = first ∷ ids_on (first + 1) more

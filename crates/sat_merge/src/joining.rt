@@ -67,7 +67,7 @@ pub fn begin(alloc: Global, formula: &Formula) -> Result<Log, Memory>
 
 /// Joins the proof of the next cube, by whatever solver, to those of the cubes below, and keeps the place of an event each of whose
 /// literals is false in it. The proof is one of the formula with the cube's literals behind its clauses, each as a clause of its own, and
-/// is checked first.
+/// is checked first. Its steps needn't be new, so those of the joined log may not be either.
 ///
 /// Costs a check of the proof, the literals and hints of its lines, and a look at each event of the joined log.
 pub fn join_proof(
@@ -85,7 +85,7 @@ pub fn join_proof(
     ensures count { OnOk result (length ends.new.items ≡ length ends.old.items + 1) }
     ensures verified { OnOk result (verdict_of (cube_clauses formula.now.clauses vars.now (length ends.old.items))
         (proof_lines proof.now) ≡ verdicts.Verified) }
-    // Only want of memory changes what is joined so far without an answer.
+    // A proof that isn't joined changes nothing. After want of memory nothing is said of what is joined: the caller drops it.
     ensures bad { (line : ℕ) → result ≡ Err (JoinError.Bad line)
         → (verdict_of (cube_clauses formula.now.clauses vars.now (length ends.old.items)) (proof_lines proof.now)
         ≡ verdicts.BadStep line) × (joined.new ≡ joined.old) × (ends.new ≡ ends.old) }
