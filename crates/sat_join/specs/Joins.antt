@@ -24,8 +24,7 @@ pub record IsRefutation (clauses : List (List Literal)) (literals : List Literal
   pub valid : IsValidLog events
   pub ends : EndsWithEmptyStep events
 
--- a log of the formula: its clauses are given in order, nothing else is, each step is valid, and no clause has a literal twice or with its
--- negation
+-- a log of the formula: its clauses are given in order, nothing else is, each step is valid, and the literals of each clause are in order
 pub record IsJoined (clauses : List (List Literal)) (events : List LogEvent) : Type 0 where
   pub steps : List LogEvent
   pub events_are : events ≡ all_given clauses ++ steps
