@@ -88,6 +88,10 @@ class Singles(Case):
         self.assertEqual(told(b"$ explanation 2\n$ without 1\nletting x be 1\n$ without 4\nletting x be 2\n"), (0, "4:3: i = 1\n5:3\n", ""))
         self.assertEqual(told(b"$ explanation 0\n"), (0, "", "singles: no clause is named\n"))
         self.assertEqual(told(b"$ explanation 1\n$ without 9\n"), (5, "", "singles: t has no line for clause 9: it is another model's\n"))
+        self.file("many", "".join(f"{it}\t1\t4:3\ti = {it}\n" for it in range(1, 11)))
+        without = "".join(f"$ without {it}\nletting x be 1\n" for it in range(1, 10))
+        told = self.call(SINGLES, "--told", "many", given=f"$ explanation 9\n{without}".encode())
+        self.assertEqual(told, (0, "".join(f"4:3: i = {it}\n" for it in range(1, 10)), "singles: of the 10 clauses at 4:3 9 are named\n"))
 
     def test_what_cannot_be_done_is_said(self):
         self.assertEqual(self.call(SINGLES)[0], 2)
