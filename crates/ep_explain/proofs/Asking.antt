@@ -13,7 +13,7 @@ use Rattle.ep_tree.specs.declared.values.Mode.{Mode}
 use Rattle.ep_tree.specs.Views.{assigned}
 use Rattle.ep_tree.specs.declared.values.Assignment.{Assignment}
 use Rattle.ep_explain.specs.Explained.{HasNoSolution, IsWrittenSolution}
-use Rattle.ep_explain.specs.Tried.{IsRightTry, IsShownOfSome, IsSpentAt, IsSpentOn, was_spent}
+use Rattle.ep_explain.specs.Tried.{IsRightTry, IsSpentAt, IsSpentOn, was_spent}
 use Rattle.ep_explain.specs.declared.tries.Tried.{Tried}
 use Rattle.ep_explain.specs.declared.tries.Tried.TheVariants.{Empty, Found, Spent}
 
@@ -35,15 +35,6 @@ pub told : (mode m : Mode) (i r : Instance) (ns : List ℕ) (budget : ℕ) (log 
     → IsRightTry m r budget log tried → IsRightTry mode (restricted i ns) budget log tried
 told mode m i r ns budget log tried is same right =
     subst (λ x. IsRightTry mode x budget log tried) is (subst (λ k. IsRightTry k r budget log tried) same right)
-
--- what is shown of the instance that was asked
-pub shown_there : (shown : Mode → Instance → Type 0) (mode m : Mode) (i r : Instance) (ns : List ℕ) → r ≡ restricted i ns → m ≡ mode → shown m r
-    → shown mode (restricted i ns)
-shown_there shown mode m i r ns is same it = subst (shown mode) is (subst (λ k. shown k r) same it)
-
--- it is shown of some of the clauses
-pub shown_of : (shown : Instance → Type 0) (i : Instance) (ns : List ℕ) → AreClauseNumbers i ns → shown (restricted i ns) → IsShownOfSome shown i
-shown_of shown i ns are it = (ns, are, it)
 
 -- ---- what a right attempt says
 

@@ -2,7 +2,7 @@ use Rattle.std.proofs.Common.{◌∙◌, ap, sym, subst}
 use Rattle.ep_instance_parts.specs.Instances.{instance_mode, plain_instance}
 use Rattle.ep_restrict.specs.Restricted.{AreClauseNumbers, numbered_clauses, restricted}
 use Rattle.ep_explain.specs.Explained.{HasNoSolution}
-use Rattle.ep_explain.proofs.Asking.{empty_none, empty_unspent, found_shown, found_unspent, shown_of, spent_at, spent_spent}
+use Rattle.ep_explain.proofs.Asking.{empty_none, empty_unspent, found_shown, found_unspent, spent_at, spent_spent}
 use Rattle.ep_explain.proofs.Ending.{ends_core, ends_open, ends_satisfiable, ends_some, narrowed_begun, right_core, right_satisfiable, right_spent, some_spent}
 use Rattle.ep_explain.proofs.explaining.explain.Goals as goal
 
@@ -19,7 +19,7 @@ returns-in-Found-clause-spent g c = ends_satisfiable _ c.in-Found.a (found_unspe
 pub returns-in-Found-clause-shown : goal.returns-in-Found-clause-shown
 returns-in-Found-clause-shown g c =
     let i = plain_instance c.args.instance.now in
-    shown_of _ i c.deref.result.now (subst (AreClauseNumbers i) (sym c.deref.ensures.value) c.in_ok-all.ensures.numbers) c.in_ok-a.ensures.shown
+    (c.deref.result.now, subst (AreClauseNumbers i) (sym c.deref.ensures.value) c.in_ok-all.ensures.numbers, c.in_ok-a.ensures.shown)
 
 pub returns-in-Spent-clause-right : goal.returns-in-Spent-clause-right
 returns-in-Spent-clause-right g c =
@@ -35,7 +35,7 @@ returns-in-Spent-clause-spent g c = ends_open _ c.in_ok-all.all (spent_spent _ _
 pub returns-in-Spent-clause-shown : goal.returns-in-Spent-clause-shown
 returns-in-Spent-clause-shown g c =
     let i = plain_instance c.args.instance.now in
-    shown_of _ i c.deref.result.now (subst (AreClauseNumbers i) (sym c.deref.ensures.value) c.in_ok-all.ensures.numbers) c.in_ok-a.ensures.shown
+    (c.deref.result.now, subst (AreClauseNumbers i) (sym c.deref.ensures.value) c.in_ok-all.ensures.numbers, c.in_ok-a.ensures.shown)
 
 pub leave_out_blocks-requires-clause-narrowed : goal.leave_out_blocks-requires-clause-narrowed
 leave_out_blocks-requires-clause-narrowed g c =
@@ -51,7 +51,7 @@ leave_out_blocks-requires-clause-spent g c = empty_unspent _ _ c.in_ok-a.ensures
 pub leave_out_blocks-requires-clause-shown : goal.leave_out_blocks-requires-clause-shown
 leave_out_blocks-requires-clause-shown g c =
     let i = plain_instance c.args.instance.now in
-    shown_of _ i c.deref.result.now (subst (AreClauseNumbers i) (sym c.deref.ensures.value) c.in_ok-all.ensures.numbers) c.in_ok-a.ensures.shown
+    (c.deref.result.now, subst (AreClauseNumbers i) (sym c.deref.ensures.value) c.in_ok-all.ensures.numbers, c.in_ok-a.ensures.shown)
 
 pub returns-in-Some-clause-right : goal.returns-in-Some-clause-right
 returns-in-Some-clause-right g c =

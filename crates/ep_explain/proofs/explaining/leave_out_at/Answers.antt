@@ -6,7 +6,7 @@ use Rattle.ep_explain.specs.Explained.{HasNoSolution, IsWrittenSolution, all_but
 use Rattle.ep_explain.specs.Narrowing.{AreLeft, IsAllSettled, left_numbers}
 use Rattle.ep_explain.specs.declared.left.Left.{Left}
 use Rattle.std.specs.Prelude.{List}
-use Rattle.ep_explain.proofs.Asking.{empty_none, empty_unspent, found_shown, found_unspent, shown_of, spent_at, spent_spent}
+use Rattle.ep_explain.proofs.Asking.{empty_none, empty_unspent, found_shown, found_unspent, spent_at, spent_spent}
 use Rattle.ep_explain.proofs.Leaving.{numbers_filtered}
 use Rattle.ep_explain.proofs.Single.{found_at, found_within, left_removed, removed_within, settled_found, settled_gone}
 use Rattle.ep_explain.proofs.explaining.leave_out_at.Goals as goal
@@ -38,7 +38,7 @@ returns-in-Found g c =
       settled = λ _ rest. settled_found c.args.left.items c.args.place c.index_mut.result.now c.in-Found.a c.requires.there rest;
       right = tt;
       spent = found_unspent _ _ _ c.in_ok-tried.ensures.spent c.in-Found.is;
-      shown = shown_of _ i c.deref-2.result.now are c.in_ok-tried.ensures.shown;
+      shown = (c.deref-2.result.now, are, c.in_ok-tried.ensures.shown);
       budget = c.in_ok-tried.ensures.budget;
       sound = c.in_ok-tried.ensures.sound;
     }
@@ -59,7 +59,7 @@ returns-in-Empty g c =
       settled = λ _ rest. subst (λ (ls : List Left). IsAllSettled (drop c.args.place ls)) (sym c.remove.ensures.items) (settled_gone c.args.left.items c.args.place c.requires.there rest);
       right = tt;
       spent = empty_unspent _ _ c.in_ok-tried.ensures.spent c.in-Empty.is;
-      shown = shown_of _ i c.deref-2.result.now are c.in_ok-tried.ensures.shown;
+      shown = (c.deref-2.result.now, are, c.in_ok-tried.ensures.shown);
       budget = c.in_ok-tried.ensures.budget;
       sound = c.in_ok-tried.ensures.sound;
     }
@@ -84,4 +84,4 @@ returns-in-Spent-clause-shown g c =
     c.deref-2.ensures.value ∙ c.in_ok-keep.ensures ∙ ap (λ ls. all_but c.index.result.now.clause (left_numbers ls)) c.deref.ensures.value in
     let are : AreClauseNumbers i c.deref-2.result.now = subst (AreClauseNumbers i) (sym kept)
     (numbers_filtered i (λ k. not (k == c.index.result.now.clause)) (left_numbers c.args.left.items) c.requires.left.numbers) in
-    shown_of _ i c.deref-2.result.now are c.in_ok-tried.ensures.shown
+    (c.deref-2.result.now, are, c.in_ok-tried.ensures.shown)

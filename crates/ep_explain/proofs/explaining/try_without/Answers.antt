@@ -5,7 +5,7 @@ use Rattle.ep_restrict.specs.Restricted.{AreClauseNumbers, restricted}
 use Rattle.ep_tree.specs.Views.{assigned}
 use Rattle.ep_explain.specs.Explained.{HasNoSolution, IsWrittenSolution}
 use Rattle.ep_explain.specs.Narrowing.{is_in_block, left_numbers}
-use Rattle.ep_explain.proofs.Asking.{empty_none, empty_unspent, found_shown, found_unspent, shown_of, spent_at, spent_spent}
+use Rattle.ep_explain.proofs.Asking.{empty_none, empty_unspent, found_shown, found_unspent, spent_at, spent_spent}
 use Rattle.ep_explain.proofs.Leaving.{fits_found, numbers_filtered, seen_found}
 use Rattle.ep_explain.proofs.explaining.try_without.Goals as goal
 
@@ -56,7 +56,7 @@ returns-in-Found g c =
           (record { assignment = c.in-Found.assignment; violated = c.in_ok-violated-in-Found.violated }) own others shown c.in_ok-violated-in-Found.ensures));
       right = tt;
       spent = found_unspent _ _ _ c.in_ok-tried.ensures.spent c.in-Found.is;
-      shown = shown_of _ i c.deref-2.result.now are c.in_ok-tried.ensures.shown;
+      shown = (c.deref-2.result.now, are, c.in_ok-tried.ensures.shown);
       budget = c.in_ok-tried.ensures.budget;
       sound = c.in_ok-tried.ensures.sound;
     }
@@ -75,7 +75,7 @@ returns-in-Empty g c =
           (subst (λ ns. HasNoSolution mode (restricted i ns)) others none));
       right = tt;
       spent = empty_unspent _ _ c.in_ok-tried.ensures.spent c.in-Empty.is;
-      shown = shown_of _ i c.deref-2.result.now are c.in_ok-tried.ensures.shown;
+      shown = (c.deref-2.result.now, are, c.in_ok-tried.ensures.shown);
       budget = c.in_ok-tried.ensures.budget;
       sound = c.in_ok-tried.ensures.sound;
     }
@@ -92,7 +92,7 @@ returns g c =
       narrowed = c.requires.narrowed;
       right = spent_at mode i c.deref-2.result.now c.in_ok-inside.outside.items _ _ _ c.deref-2.ensures.value are c.in-Spent.is c.in_ok-tried.ensures.right;
       spent = spent_spent _ _ c.in_ok-tried.ensures.spent c.in-Spent.is;
-      shown = shown_of _ i c.deref-2.result.now are c.in_ok-tried.ensures.shown;
+      shown = (c.deref-2.result.now, are, c.in_ok-tried.ensures.shown);
       budget = c.in_ok-tried.ensures.budget;
       sound = c.in_ok-tried.ensures.sound;
     }
