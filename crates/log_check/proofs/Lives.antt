@@ -1,8 +1,8 @@
 -- The live clauses as a list.
-use Rattle.std.proofs.Common.{◌≡◌, ℕ, ◌+◌, Bool, true, false, not, cond, ◌||◌, eqb, List, [], ◌∷◌, ◌++◌, length, map, filter, Option, Some, None, refl, ap, subst, ◌∙◌, arith, inl, inr}
+use Rattle.std.proofs.Common.{◌≡◌, ℕ, zero, suc, ◌+◌, Bool, true, false, not, cond, ◌||◌, eqb, List, [], ◌∷◌, ◌++◌, length, map, filter, Option, Some, None, refl, ap, subst, ◌∙◌, arith, inl, inr}
 use Rattle.std.proofs.lemmas.Bool.Decides.{nat_tests}
-use Rattle.std.proofs.lemmas.Bool.{eqb-true}
-use Rattle.std.specs.List.{list_any}
+use Rattle.std.proofs.lemmas.Bool.{eqb-true, or_left, or_right}
+use Rattle.std.specs.List.{list_any, slice_get}
 use Rattle.cnf_core.specs.Literal.{Literal}
 use Rattle.log_check.specs.Verdict.{Live, numbered_from, live_clause}
 use Rattle.log_check.proofs.Trues.{bool_cases}
@@ -10,6 +10,12 @@ use Rattle.log_check.proofs.Trues.{bool_cases}
 pub list_any_map : {X Y : Type 0} (p : Y → Bool) (f : X → Y) (xs : List X) → list_any p (map f xs) ≡ list_any (λ x. p (f x)) xs
 list_any_map p f [] = refl
 list_any_map p f (x ∷ xs) = ap (λ b. p (f x) || b) (list_any_map p f xs)
+
+-- where a test holds of an element, it holds of some
+pub any_there : {X : Type 0} (p : X → Bool) (xs : List X) (place : ℕ) (x : X) → slice_get xs place ≡ Some x → p x ≡ true → list_any p xs ≡ true
+any_there p [] place x at e = absurd cc
+any_there p (y ∷ ys) zero x at e = let same : y ≡ x = cc in or_left (p y) (list_any p ys) (ap p same ∙ e)
+any_there p (y ∷ ys) (suc place) x at e = or_right (p y) (list_any p ys) (any_there p ys place x at e)
 
 -- one more clause at the end has the next id
 pub live_clause_push : (n id : ℕ) (clauses : List (List Literal)) (clause : List Literal) → live_clause (numbered_from n (clauses ++ clause ∷ [])) id ≡ cond (eqb id (n + length clauses)) (Some clause) (live_clause (numbered_from n clauses) id)

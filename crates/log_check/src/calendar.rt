@@ -1,6 +1,7 @@
 //! The lines of a proof at which clauses are live.
 
 ghost use Rattle.std.specs.Prelude.{◌≡◌, ◌+◌, ◌<◌, ◌^◌, ℕ, nat_eq, if◌then◌else◌, None, Some, OnOk, IfOk, option_copied, length, []};
+ghost use Rattle.std.specs.HashMap.{get};
 ghost use Rattle.sat_proof.specs.Lines.{proof_lines};
 ghost use Rattle.sat_proof.specs.Lists.{lists_of};
 ghost use Rattle.log_check.specs.Lives.{EndsThose, clause_at, ended, life_of};
@@ -37,6 +38,7 @@ impl<'a> Lives<'a> {
         Ok(Lives { small, large })
     }
 
+    #[inline(always)]
     fn life(&self, id: u64) -> Option<Life<'a>>
         ensures { result ≡ life_of self.now id }
     {
@@ -44,8 +46,16 @@ impl<'a> Lives<'a> {
         if place < self.small.len() {
             self.small[place]
         } else {
-            self.large.get(&id).copied()
+            self.large_life(id)
         }
+    }
+
+    /// The life under an id that the map has. It stands apart, so that what each hint asks is short enough to be written out in its place.
+    #[inline(never)]
+    fn large_life(&self, id: u64) -> Option<Life<'a>>
+        ensures { result ≡ get nat_eq self.now.large id }
+    {
+        self.large.get(&id).copied()
     }
 
     fn put(&mut self, id: u64, life: Life<'a>) -> Result<(), Memory>
@@ -62,6 +72,7 @@ impl<'a> Lives<'a> {
     }
 
     /// The clause that is live under an id at a line.
+    #[inline(always)]
     pub(crate) fn clause_at(&self, line: usize, id: u64) -> Option<&'a [Lit]>
         ensures { option_copied result ≡ clause_at (life_of self.now id) line }
     {
@@ -120,15 +131,20 @@ pub(crate) fn side_by_side(alloc: Global, clauses: &[Clause]) -> Result<Lists, M
     Ok(lists)
 }
 
-/// How many ids get a place of their own: those up to the greatest, where it isn't far above the
-/// number of clauses.
-fn places(clauses: usize, proof: &Proof) -> usize {
-    let mut greatest = clauses;
-    for row in proof.rows() {
+/// The id of the last line that adds. Where ids rise it is the greatest.
+fn last_id(proof: &Proof) -> usize {
+    for row in proof.rows().iter().rev() {
         if let Line::Add { id, .. } = proof.line(row) {
-            greatest = greatest.max(id as usize);
+            return id as usize;
         }
     }
+    0
+}
+
+/// How many ids get a place of their own: those up to the last, where it isn't far above the number
+/// of clauses.
+fn places(clauses: usize, proof: &Proof) -> usize {
+    let greatest = clauses.max(last_id(proof));
     let most = clauses.saturating_add(proof.rows().len()).saturating_mul(4);
     greatest.min(most).saturating_add(1)
 }

@@ -56,10 +56,22 @@ fn some_is_empty(clauses: &[Clause]) -> bool
     clauses.iter().any(is_empty)
 }
 
-fn some_adds_empty(proof: &Proof) -> bool
+fn any_adds_empty(proof: &Proof) -> bool
     ensures { result ≡ list_any (λ row. adds_empty_clause (row_line proof.now row)) proof.now.rows }
 {
     proof.rows().iter().any(|row| adds_empty(proof.line(row)))
+}
+
+/// The same, where the last line is looked at first: mostly it is the one.
+fn some_adds_empty(proof: &Proof) -> bool
+    ensures { result ≡ list_any (λ row. adds_empty_clause (row_line proof.now row)) proof.now.rows }
+{
+    if let Some(last) = proof.rows().last() {
+        if adds_empty(proof.line(last)) {
+            return true;
+        }
+    }
+    any_adds_empty(proof)
 }
 
 /// The verdict, where this is the number of the first line that isn't valid, or each line is.

@@ -1,6 +1,7 @@
 //! The literals that are true while the hints of a line are read.
 
 ghost use Rattle.std.specs.Prelude.{◌≡◌, ℕ, [], nat_eq, if◌then◌else◌, Some, None, OnOk, OnErr, IfOk};
+ghost use Rattle.std.specs.HashMap.{get};
 ghost use Rattle.cnf_core.specs.Literal.{negation, is_among};
 ghost use Rattle.log_check.specs.Table.{sign_of};
 ghost use Rattle.log_check.specs.Kept.{MakesTrue};
@@ -28,6 +29,7 @@ impl Table {
         Ok(Table { small, large })
     }
 
+    #[inline(always)]
     fn sign(&self, var: u64) -> Option<bool>
         ensures { result ≡ sign_of self.now var }
     {
@@ -35,10 +37,19 @@ impl Table {
         if place < self.small.len() {
             self.small[place]
         } else {
-            self.large.get(&var).copied()
+            self.large_sign(var)
         }
     }
 
+    /// The sign that the map has. It stands apart, so that what each literal asks is short enough to be written out in its place.
+    #[inline(never)]
+    fn large_sign(&self, var: u64) -> Option<bool>
+        ensures { result ≡ get nat_eq self.now.large var }
+    {
+        self.large.get(&var).copied()
+    }
+
+    #[inline(always)]
     fn put(&mut self, var: u64, sign: bool) -> Result<(), Memory>
         ensures ok { OnOk result
             ((v : ℕ) → sign_of self.new v
@@ -54,6 +65,7 @@ impl Table {
         Ok(())
     }
 
+    #[inline(always)]
     fn take_out(&mut self, var: u64)
         ensures { (v : ℕ) → sign_of self.new v
             ≡ (if nat_eq var v then None else sign_of self.old v) }
@@ -99,6 +111,7 @@ impl Signs {
         })
     }
 
+    #[inline(always)]
     pub(crate) fn is_false(&self, lit: &Lit) -> bool
         ensures { result ≡ is_among self.now (negation lit.now) }
     {
@@ -109,6 +122,7 @@ impl Signs {
     }
 
     /// Makes a literal true, unless its negation is, and answers whether it is true now.
+    #[inline(always)]
     pub(crate) fn set_true(&mut self, lit: Lit) -> Result<bool, Memory>
         ensures { IfOk result (λ done. MakesTrue self.old self.new lit done) }
     {

@@ -1,6 +1,5 @@
-use Rattle.std.proofs.Common.{◌≡◌, ◌<◌, ◌≤◌, ℕ, List, length, get_or, ap, sym, ◌∙◌, arith}
+use Rattle.std.proofs.Common.{◌≡◌, ◌<◌, ◌≤◌, length, get_or, ap, arith}
 use Rattle.std.proofs.lemmas.List.{get_or_default, length-map}
-use Rattle.cnf_core.specs.Literal.{Literal}
 use Rattle.sat_proof.specs.Lists.{list_at, lists_of}
 use Rattle.log_check.proofs.Calendars.{list_there, tells_none, tells_given, tells_formula}
 use Rattle.log_check.proofs.calendar.lives_of_formula.Goals as goal

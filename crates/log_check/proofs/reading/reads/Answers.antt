@@ -1,4 +1,4 @@
-use Rattle.std.proofs.Common.{◌≡◌, refl, List, Some, ◌∙◌, ap, subst, pos}
+use Rattle.std.proofs.Common.{◌≡◌, refl, List, ap, subst, pos}
 use Rattle.std.specs.Prelude.{option_copied}
 use Rattle.cnf_core.specs.Reading.{not_false}
 use Rattle.log_check.specs.Kept.{remaining_of}

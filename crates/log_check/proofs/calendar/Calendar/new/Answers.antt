@@ -1,10 +1,8 @@
 use Rattle.std.proofs.Common.{ℕ, List, [], length, ap, sym, ◌∙◌, subst}
 use Rattle.std.proofs.lemmas.List.{get_or_default, length-map}
-use Rattle.cnf_core.specs.Literal.{Literal}
 use Rattle.sat_proof.specs.Lines.{plain_line, row_lines}
 use Rattle.sat_proof.specs.Lists.{list_at, lists_of}
 use Rattle.sat_proof.specs.declared.proof.Row.{Row}
-use Rattle.log_check.specs.Lives.{EndsThose}
 use Rattle.log_check.specs.Parts.{TellsFirst, TellsLives}
 use Rattle.log_check.proofs.Found.{line_added, line_deleted, line_stops, line_ends}
 use Rattle.log_check.proofs.calendar.Calendar.new.Goals as goal
