@@ -146,7 +146,7 @@ returns-in-Opb-clause-generated g c =
     subst W (sym c.in-Opb.is) (no-texts c.opb_file_reply.result)
 
 pub generate-requires-clause-within : goal.generate-requires-clause-within
-generate-requires-clause-within g c = subst CanBeWanted c.in-Generate.is c.requires.possible
+generate-requires-clause-within g c = λ κs lives. subst CanBeWanted c.in-Generate.is c.requires.possible
 
 pub returns-in-Generate-clause-tells : goal.returns-in-Generate-clause-tells
 returns-in-Generate-clause-tells g c =
