@@ -1,6 +1,7 @@
 -- An instance that is explained, and the texts of explanations.
 use Rattle.std.proofs.Common.{◌≡◌, ◌⊎◌, ◌≤◌, inl, inr, ℕ, ℤ, pos, suc, zero, List, [], ◌∷◌, None, refl, sym, ap, ◌∙◌, arith}
-use Rattle.std.specs.Prelude.{codes, length}
+use Rattle.std.specs.Prelude.{codes, length, Some}
+use Rattle.std.specs.Fmt.{digits}
 use Rattle.std.specs.List.Sorted.{IsStrictlyIncreasing}
 use Rattle.std.proofs.lemmas.List.Elements.{All-from_recursion}
 use Rattle.std.proofs.lemmas.List.Sorted.{IsPermutation-refl}
@@ -13,8 +14,9 @@ use Rattle.ep_restrict.specs.Restricted.{AreClauseNumbers, numbered_clauses, res
 use Rattle.ep_solve_rows.proofs.TwoValues.{bare, found, is, one_of_both}
 use Rattle.ep_tree.proofs.Opened.{the_language}
 use Rattle.ep_tree.specs.Binding.{Instance}
-use Rattle.ep_tree.specs.Solutions.{Found, violated}
+use Rattle.ep_tree.specs.Solutions.{Found, NamedValue, violated}
 use Rattle.ep_tree.specs.Trees.{ExprTree, compare, named, number}
+use Rattle.ep_tree.specs.TypedValues.{IsOf}
 use Rattle.ep_tree.specs.declared.values.Mode.{Mode}
 
 -- ---- the instance
@@ -47,11 +49,24 @@ numbers_are = record {
   there = All-from_recursion (λ (n : ℕ). (1 ≤ n) × (n ≤ length refused.clauses)) (core_numbers core) ((omega arith, omega arith), ((omega arith, omega arith), tt));
 }
 
+-- a number isn't none
+no_none : (k : ℕ) → Some k ≡ None → ⊥
+no_none k e = absurd cc
+
+-- where x is 1 the first one is violated
+first_violated : violated Mode.Relational (restricted refused (core_numbers core)) (found (pos 1)) ≡ Some 1
+unfolding the_language numbered_clauses
+first_violated = refl
+
+-- where x is 2 the second one is
+second_violated : violated Mode.Relational (restricted refused (core_numbers core)) (found (pos 2)) ≡ Some 2
+unfolding the_language numbered_clauses
+second_violated = refl
+
 -- neither value makes both true
 neither : (f : Found) → (f ≡ found (pos 1)) ⊎ (f ≡ found (pos 2)) → violated Mode.Relational (restricted refused (core_numbers core)) f ≡ None → ⊥
-unfolding the_language numbered_clauses
-neither f (inl one) holds = absurd (sym (ap (violated Mode.Relational (restricted refused (core_numbers core))) one) ∙ holds)
-neither f (inr two) holds = absurd (sym (ap (violated Mode.Relational (restricted refused (core_numbers core))) two) ∙ holds)
+neither f (inl one) holds = no_none 1 (sym first_violated ∙ sym (ap (violated Mode.Relational (restricted refused (core_numbers core))) one) ∙ holds)
+neither f (inr two) holds = no_none 2 (sym second_violated ∙ sym (ap (violated Mode.Relational (restricted refused (core_numbers core))) two) ∙ holds)
 
 -- nothing makes both true
 none : HasNoSolution Mode.Relational (restricted refused (core_numbers core))
@@ -63,7 +78,7 @@ unfolding the_language numbered_clauses
 first_without = record {
   solves = record { found = found (pos 1); fits = record { same_names = IsPermutation-refl (codes "x" ∷ []); values = refl }; holds = refl; measured = refl };
   written = refl;
-  typed = All-from_recursion _ (is (pos 1)) (refl, tt);
+  typed = All-from_recursion (λ (g : NamedValue). IsOf g.ty g.value) (is (pos 1)) (refl, tt);
 }
 
 -- that x is 2 makes the first one true
@@ -72,7 +87,7 @@ unfolding the_language numbered_clauses
 second_without = record {
   solves = record { found = found (pos 2); fits = record { same_names = IsPermutation-refl (codes "x" ∷ []); values = refl }; holds = refl; measured = refl };
   written = refl;
-  typed = All-from_recursion _ (is (pos 2)) (refl, tt);
+  typed = All-from_recursion (λ (g : NamedValue). IsOf g.ty g.value) (is (pos 2)) (refl, tt);
 }
 
 -- the first clause and the second explain why there is no solution
@@ -87,10 +102,10 @@ explained = record {
 
 -- two clauses, each with its values
 pub two_named : core_text ((1, is (pos 2)) ∷ (2, is (pos 3)) ∷ []) ≡ codes "language ESSENCE' 1.0\n$ explanation 2\n$ without 1\nletting x be 2\n$ without 2\nletting x be 3\n"
-unfolding core_text without_text letting_text value_text scalar_value_text scalar_text the_language
+unfolding core_text without_text letting_text value_text scalar_value_text scalar_text digits the_language
 two_named = refl
 
 -- no clause: the domains alone have no value
 pub none_named : core_text [] ≡ codes "language ESSENCE' 1.0\n$ explanation 0\n"
-unfolding core_text
+unfolding core_text digits
 none_named = refl
