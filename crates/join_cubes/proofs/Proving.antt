@@ -1,5 +1,5 @@
 -- What is written of a joined log proves the formula, and what a file has that was read.
-use Rattle.std.proofs.Common.{◌≡◌, ◌↔◌, ℕ, ◌+◌, ◌<◌, ◌≤◌, Bool, true, false, List, [], ◌∷◌, ◌++◌, length, take, Option, Some, None, Result, Ok, Err, IfOk, option_map, inl, inr, refl, ap, sym, subst, ◌∙◌, arith}
+use Rattle.std.proofs.Common.{◌≡◌, ◌↔◌, ℕ, ◌+◌, ◌<◌, ◌≤◌, true, false, List, [], ◌∷◌, ◌++◌, length, take, Option, Some, None, Result, Ok, Err, IfOk, option_map, inl, inr, refl, ap, sym, subst, ◌∙◌, arith}
 use Rattle.std.specs.Prelude.{All}
 use Rattle.std.proofs.lemmas.Bool.{cases_lt, false≢true}
 use Rattle.std.proofs.lemmas.List.{length-take, take_all}
@@ -9,7 +9,7 @@ use Rattle.cnf_core.specs.Literal.{Literal, IsVariable}
 use Rattle.cnf_core.specs.LogLines.{log_lines}
 use Rattle.cnf_core.specs.Steps.{IsValidLog}
 use Rattle.ep_base.specs.Outside.{Held, ReadGives}
-use Rattle.join_cubes.specs.Texts.{HasFormula, IsFormulaText, IsProofText, ProvesFirst}
+use Rattle.join_cubes.specs.Texts.{HasFormula, IsProofText, IsShortFormulaText, ProvesFirst}
 use Rattle.log_check.proofs.Accepted.{closed_is_verified}
 use Rattle.log_check.specs.Verdict.{verdict_of}
 use Rattle.log_check.specs.declared.Verdict.TheVariants.{Verified}
@@ -73,7 +73,7 @@ not_long most text TooLong long not = elim (cases_lt most (length text)) [
   | inr within ↦ within
 ]
 
-pub formula_read : {A E : Type 0} (clauses : A → List (List Literal)) (told : Option Held) (name text : List ℕ) (r : Result A E) → ReadGives told name (most_text_bytes + 1) (Some text) → IfOk r (λ f. IsFormulaText text (clauses f))
+pub formula_read : {A E : Type 0} (clauses : A → List (List Literal)) (told : Option Held) (name text : List ℕ) (r : Result A E) → ReadGives told name (most_text_bytes + 1) (Some text) → IfOk r (λ f. IsShortFormulaText text (clauses f))
     → IfOk r (λ f. (held : Held) → told ≡ Some held → HasFormula held name (clauses f))
 formula_read clauses told name text (Ok f) gives h = λ held is. has_formula most_text_bytes told name text h.vars (clauses f) gives h.within h.spelled held is
 formula_read clauses told name text (Err e) gives h = tt

@@ -16,7 +16,7 @@ pub record IsProofText (clauses : List (List Literal)) (text : List ℕ) : Type 
   pub verified : verdict_of clauses lines ≡ Verified
 
 -- a text that isn't too long spells a formula of these clauses
-pub record IsFormulaText (text : List ℕ) (clauses : List (List Literal)) : Type 0 where
+pub record IsShortFormulaText (text : List ℕ) (clauses : List (List Literal)) : Type 0 where
   pub within : length text ≤ most_text_bytes
   pub vars : ℕ
   pub spelled : SpellsCnf text vars clauses

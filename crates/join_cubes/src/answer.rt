@@ -2,7 +2,7 @@
 
 ghost use Rattle.std.specs.Prelude.{◌≡◌, ◌+◌, ◌^◌, ◌<◌, ◌≤◌, Some, IfOk, OnOk, length};
 ghost use Rattle.ep_base.specs.Outside.{Held, ReadGives};
-ghost use Rattle.join_cubes.specs.Texts.{HasFormula, IsFormulaText, IsProofText, ProvesFirst};
+ghost use Rattle.join_cubes.specs.Texts.{HasFormula, IsProofText, IsShortFormulaText, ProvesFirst};
 ghost use Rattle.join_cubes.specs.declared.answer.TheConstants.{MOST_VARIABLES};
 ghost use Rattle.sat_join.specs.Joins.{Divides, IsJoined, IsJoint};
 ghost use Rattle.sat_search.specs.Logs.{EndsWithEmptyStep};
@@ -72,7 +72,7 @@ fn read_formula<F: Files>(alloc: Global, files: &mut F, name: &str) -> Result<Fo
 
 /// The formula that a text spells.
 fn formula_in(alloc: Global, text: &[u8]) -> Result<Formula, Refusal>
-    ensures { IfOk result (λ formula. IsFormulaText text.now formula.clauses) }
+    ensures { IfOk result (λ formula. IsShortFormulaText text.now formula.clauses) }
 {
     match read_cnf(alloc, text) {
         Ok(content) => Ok(content.formula),
