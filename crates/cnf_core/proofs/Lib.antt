@@ -8,3 +8,4 @@ pub mod Reading
 pub mod Events
 pub mod Literals
 pub mod Keeping
+pub mod Pieces

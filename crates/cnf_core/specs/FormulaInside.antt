@@ -6,11 +6,11 @@ use Rattle.cnf_core.specs.Literal.{IsClause, VariablesUpTo}
 use Rattle.cnf_core.specs.Formula.{Cnf}
 
 abbrev pub cnf_of : Inside → Cnf
-cnf_of f = record { vars = f.vars; clauses = f.clauses.items; from_new = f.from_new }
+cnf_of f = record { vars = f.vars; clauses = f.clauses; from_new = f.from_new }
 
 -- a formula that can grow has a mark for each variable, and each clause is one and names only variables of the formula
 pub record IsFormula (f : Inside) : Type 0 where
   pub marked : IsTrue f.from_new → f.vars ≡ vec_len f.marks
   pub in_range : f.vars ≤ MOST_VARIABLE
-  pub clauses : All IsClause f.clauses.items
-  pub names : All (VariablesUpTo f.vars) f.clauses.items
+  pub clauses : All IsClause f.clauses
+  pub names : All (VariablesUpTo f.vars) f.clauses

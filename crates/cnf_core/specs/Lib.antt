@@ -5,6 +5,8 @@ pub mod Events
 pub mod Reading
 pub mod Steps
 pub mod FormulaInside
+pub mod Pieces
+pub mod ClauseListInside
 pub mod LogInside
 pub mod Codes
 pub mod Lines

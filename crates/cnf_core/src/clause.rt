@@ -58,6 +58,16 @@ impl Clause {
         Ok(Clause { lits })
     }
 
+    /// The clause of these literals, which are in order. Costs two allocations.
+    pub fn from_ordered(alloc: Global, lits: &[Lit]) -> Result<Clause, Memory>
+        requires { IsClause lits.now }
+        ensures { IfOk result (λ clause. clause ≡ lits.now) }
+    {
+        let copied = Vec::from_slice(alloc, lits)?;
+        let shared = ArcSlice::from_vec(copied)?;
+        Ok(Clause { lits: shared })
+    }
+
     /// The same clause once more; both share their literals.
     pub fn copied(&self) -> Result<Clause, Memory>
         ensures { IfOk result (λ copy. copy ≡ self.now) }

@@ -1,11 +1,12 @@
 //! Formulas: clauses over variables that are numbered from 1.
 
 ghost use Rattle.std.specs.Prelude.{◌≡◌, ◌+◌, ◌≤◌, All, ◌++◌, [], ◌∷◌, IsTrue, true, false, IfOk, OnOk, OnErr};
-ghost use Rattle.cnf_core.specs.Literal.{VariablesUpTo, IsVariable, IsClause};
+ghost use Rattle.cnf_core.specs.Literal.{VariablesUpTo, IsVariable, IsClause, IsOrdered};
 ghost use Rattle.cnf_core.specs.Formula.{NamesItsVariables};
 
 use crate::clause::Clause;
-use crate::lit::MOST_VARIABLE;
+use crate::lists::ClauseList;
+use crate::lit::{Lit, MOST_VARIABLE};
 use ep_base::Memory;
 use std::alloc::Global;
 use std::marker::Model;
@@ -21,7 +22,7 @@ const MARK: Mark = [0; 2];
 pub struct Formula {
     vars: u64,
     marks: Vec<Mark>,
-    clauses: Vec<Clause>,
+    clauses: ClauseList,
     from_new: bool,
 }
 
@@ -45,7 +46,7 @@ impl Formula {
         Formula {
             vars: 0,
             marks: Vec::new(alloc),
-            clauses: Vec::new(alloc),
+            clauses: ClauseList::new(alloc),
             from_new: true,
         }
     }
@@ -58,7 +59,7 @@ impl Formula {
         Formula {
             vars,
             marks: Vec::new(alloc),
-            clauses: Vec::new(alloc),
+            clauses: ClauseList::new(alloc),
             from_new: false,
         }
     }
@@ -84,8 +85,21 @@ impl Formula {
             (self.new ≡ record self.old { clauses = self.old.clauses ++ clause ∷ [] }) }
         ensures err { OnErr result (self.new ≡ self.old) }
     {
-        // What each clause keeps, `clauses` promises of this one too.
-        let _lits = clause.lits();
+        self.add_ordered(clause.lits())
+    }
+
+    /// Adds the clause of these literals at the end, which are in order. After want of memory the
+    /// formula is unchanged.
+    pub fn add_ordered(&mut self, clause: &[Lit]) -> Result<(), Memory>
+        requires ordered { IsOrdered clause.now }
+        requires names { VariablesUpTo self.old.vars clause.now }
+        ensures ok { OnOk result
+            (self.new ≡ record self.old { clauses = self.old.clauses ++ clause.now ∷ [] }) }
+        ensures err { OnErr result (self.new ≡ self.old) }
+    {
+        for lit in clause {
+            prove!(lit.var() <= MOST_VARIABLE);
+        }
         self.clauses.push(clause)?;
         Ok(())
     }
@@ -99,11 +113,11 @@ impl Formula {
     }
 
     /// The clauses, in the order in which they were added.
-    pub fn clauses(&self) -> &[Clause]
+    pub fn clauses(&self) -> &ClauseList
         ensures value { result.now ≡ self.now.clauses }
         ensures clauses { All IsClause self.now.clauses }
         ensures names { NamesItsVariables self.now }
     {
-        self.clauses.as_slice()
+        &self.clauses
     }
 }

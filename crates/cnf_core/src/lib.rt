@@ -5,6 +5,7 @@
 mod clause;
 mod formula;
 mod laws;
+mod lists;
 mod lit;
 mod log;
 
@@ -14,5 +15,6 @@ pub use laws::{
     Condition, an_effective_step_needs_its_last_literal, keeping_composes, new_steps_are_few,
     no_step_is_effective_after_a_conflict, valid_steps_follow,
 };
+pub use lists::ClauseList;
 pub use lit::{Lit, MOST_VARIABLE};
 pub use log::{CellNote, Event, Log};

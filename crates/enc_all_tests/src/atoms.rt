@@ -9,14 +9,14 @@ use std::test::Fail;
 
 /// Whether the clause at this place has these literals, a variable and a sign each.
 fn stands(f: &Formula, place: usize, literals: &[(u64, bool)]) -> bool {
-    match f.clauses().get(place) {
-        Some(clause) => {
-            let same = clause.lits().len() == literals.len();
-            let mut pairs = clause.lits().iter().zip(literals);
-            same && pairs.all(|(lit, wanted)| lit.var() == wanted.0 && lit.positive() == wanted.1)
-        }
-        None => false,
+    let clauses = f.clauses();
+    if clauses.len() <= place {
+        return false;
     }
+    let clause = clauses.clause(place);
+    let same = clause.len() == literals.len();
+    let mut pairs = clause.iter().zip(literals);
+    same && pairs.all(|(lit, wanted)| lit.var() == wanted.0 && lit.positive() == wanted.1)
 }
 
 #[test]

@@ -31,8 +31,9 @@ fn pose(alloc: Global, formula: &Formula) -> Result<(Solver, Log), Fail>
     let mut log = Log::new(alloc);
     let mut solver = Solver::new(alloc, &log)?;
     let givens = formula.clauses();
-    for clause in givens {
-        solver.add_given(clause.clone()?, &mut log)?;
+    for place in 0..givens.len() {
+        let clause = Clause::from_ordered(alloc, givens.clause(place))?;
+        solver.add_given(clause, &mut log)?;
     }
     Ok((solver, log))
 }

@@ -12,7 +12,7 @@ ghost use Rattle.ep_tree.specs.declared.values.Mode.{Mode};
 ghost use Rattle.ep_unroll.specs.Cells.{instance_cells};
 ghost use Rattle.sat_search.specs.Logs.{IsSound};
 
-use cnf_core::{Clause, Log};
+use cnf_core::{Clause, ClauseList, Log};
 use ep_answer::Problem;
 use ep_base::Memory;
 use ep_formula::Encoded;
@@ -20,13 +20,13 @@ use sat_search::Solver;
 use std::alloc::Global;
 
 /// Appends these clauses to an empty log as givens.
-fn give_all(log: &mut Log, clauses: &[Clause]) -> Result<(), Memory>
+fn give_all(alloc: Global, log: &mut Log, clauses: &ClauseList) -> Result<(), Memory>
     requires { log.old ≡ empty_log }
     ensures all { OnOk result (log.new ≡ record { events = map given clauses.now; notes = []; base = 0 }) }
     ensures givens { All (λ e. is_given e ≡ true) log.new.events }
 {
-    for clause in clauses {
-        log.given(clause.copied()?)?;
+    for place in 0..clauses.len() {
+        log.given(Clause::from_ordered(alloc, clauses.clause(place))?)?;
     }
     Ok(())
 }
@@ -42,7 +42,7 @@ pub fn posed(alloc: Global, encoded: Encoded, log: &mut Log) -> Result<Problem, 
         → encoded.cells.items ≡ instance_cells i → Poses mode i (plain_problem problem) log.new) }
     ensures sound { IsSound log.new.events }
 {
-    give_all(log, encoded.formula.clauses())?;
+    give_all(alloc, log, encoded.formula.clauses())?;
     let notes = encoded.layout.notes(alloc, &encoded.cells, &encoded.map)?;
     let base = log.events().len() as u64;
     log.mark(notes, base);

@@ -5,13 +5,10 @@ use Rattle.std.specs.Borrow.{Bor}
 use Rattle.std.proofs.lemmas.Bool.{eqb-true, ltb-true}
 use Rattle.std.proofs.lemmas.Bool.Decides.{nat_tests}
 use Rattle.std.proofs.Math.Bool.{and-true}
-use Rattle.std.proofs.Math.ListN.{get_or-map}
 use Rattle.std.proofs.lemmas.List.{take_all, take_at, take-take, take-append-le, take_more, length-take-le, get_or_append_left, get_or_at, get_or-take}
 use Rattle.ep_base.specs.declared.errors.Memory.{Memory}
 use Rattle.cnf_core.specs.Literal.{Literal}
 use Rattle.cnf_core.specs.Lines.{ProofLine, add, delete}
-use Rattle.sat_proof.specs.Lists.{FlatLists, list_at, lists_of}
-use Rattle.sat_proof.specs.declared.lists.Span.{Span}
 use Rattle.log_check.specs.Kept.{KeepsLive}
 use Rattle.log_check.specs.Lives.{life_of, clause_at, ended, EndsThose}
 use Rattle.log_check.specs.Parts.{TellsFirst, TellsLives, has_new_id}
@@ -236,12 +233,6 @@ tells_none lives last none = record {
 }
 
 -- one clause more of the formula
--- the list of a span stands at the place of the span
-pub list_there : (flat : FlatLists) (spans : List Span) (k : ℕ) (span : Span) (list : List Literal) → spans ≡ flat.spans → k < length spans → span ≡ get_or spans k span → list ≡ list_at flat span → list ≡ get_or (lists_of flat) k list
-list_there flat spans k span list same lt is e =
-    e ∙ ap (list_at flat) (is ∙ ap (λ (ss : List Span). get_or ss k span) same) ∙ sym (get_or-map (list_at flat) flat.spans k span)
-    ∙ ap (get_or (lists_of flat) k) (sym e)
-
 pub tells_given : (old new : Lives) (last : ℕ) (clauses : List (List Literal)) (k : ℕ) (clause : Bor (List Literal)) → k < length clauses → clause.now ≡ get_or clauses k clause.now
     → TellsFirst old k last (take k clauses) []
     → ((q : ℕ) → life_of new q ≡ cond (eqb (k + 1) q) (Some (record { clause = clause; from = 0; until = last })) (life_of old q))

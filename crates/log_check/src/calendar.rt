@@ -3,13 +3,12 @@
 ghost use Rattle.std.specs.Prelude.{◌≡◌, ◌+◌, ◌<◌, ◌^◌, ℕ, nat_eq, if◌then◌else◌, None, Some, OnOk, IfOk, option_copied, length, []};
 ghost use Rattle.std.specs.HashMap.{get};
 ghost use Rattle.sat_proof.specs.Lines.{proof_lines};
-ghost use Rattle.sat_proof.specs.Lists.{lists_of};
 ghost use Rattle.log_check.specs.Lives.{EndsThose, clause_at, ended, life_of};
 ghost use Rattle.log_check.specs.Parts.{TellsFirst, TellsLives};
 
-use cnf_core::{Clause, Lit};
+use cnf_core::{ClauseList, Lit};
 use ep_base::Memory;
-use sat_proof::{Line, Lists, Proof};
+use sat_proof::{Line, Proof};
 use std::alloc::Global;
 use std::collections::HashMap;
 
@@ -120,17 +119,6 @@ pub struct Calendar<'a> {
     pub(crate) ordered: usize,
 }
 
-/// The clauses of a formula side by side, as a check reads them again and again.
-pub(crate) fn side_by_side(alloc: Global, clauses: &[Clause]) -> Result<Lists, Memory>
-    ensures { IfOk result (λ lists. lists_of lists ≡ clauses.now) }
-{
-    let mut lists = Lists::new(alloc);
-    for clause in clauses {
-        lists.push(clause.lits())?;
-    }
-    Ok(lists)
-}
-
 /// The id of the last line that adds. Where ids rise it is the greatest.
 fn last_id(proof: &Proof) -> usize {
     for row in proof.rows().iter().rev() {
@@ -152,17 +140,16 @@ fn places(clauses: usize, proof: &Proof) -> usize {
 /// The lives of a formula's clauses, which have the ids from 1 on, up to the end of so many lines.
 fn lives_of_formula<'a>(
     alloc: Global,
-    clauses: &'a Lists,
+    clauses: &'a ClauseList,
     places: usize,
     until: usize,
 ) -> Result<Lives<'a>, Memory>
-    ensures { IfOk result (λ lives. TellsFirst lives (length (lists_of clauses.now)) until (lists_of clauses.now) []) }
+    ensures { IfOk result (λ lives. TellsFirst lives (length clauses.now) until clauses.now []) }
 {
     let mut lives = Lives::new(alloc, places)?;
-    let spans = clauses.spans();
-    for (index, span) in spans.iter().enumerate() {
+    for index in 0..clauses.len() {
         let life = Life {
-            clause: clauses.list(span),
+            clause: clauses.clause(index),
             from: 0,
             until,
         };
@@ -177,14 +164,14 @@ impl<'a> Calendar<'a> {
     /// Costs the clauses, the lines and the ids that are deleted.
     pub(crate) fn new(
         alloc: Global,
-        clauses: &'a Lists,
+        clauses: &'a ClauseList,
         proof: &'a Proof,
     ) -> Result<Calendar<'a>, Memory>
-        ensures { IfOk result (λ c. TellsLives c (lists_of clauses.now) (proof_lines proof.now)) }
+        ensures { IfOk result (λ c. TellsLives c clauses.now (proof_lines proof.now)) }
     {
         let rows = proof.rows();
         let until = rows.len();
-        let given = clauses.spans().len();
+        let given = clauses.len();
         let mut lives = lives_of_formula(alloc, clauses, places(given, proof), until)?;
         let mut newest = given as u64;
         for (index, row) in rows.iter().enumerate() {

@@ -14,8 +14,8 @@ mod parts;
 mod reading;
 mod signs;
 
-use calendar::{Calendar, side_by_side};
-use cnf_core::{Clause, Formula};
+use calendar::Calendar;
+use cnf_core::{ClauseList, Formula, Lit};
 use ep_base::Memory;
 pub use laws::{valid_logs_are_accepted, verified_formulas_have_no_solution};
 use parts::{Work, first_bad, least};
@@ -35,10 +35,10 @@ pub enum Verdict {
     NoEmptyClause,
 }
 
-fn is_empty(clause: &Clause) -> bool
+fn is_empty(clause: &[Lit]) -> bool
     ensures { result ≡ is_empty_clause clause.now }
 {
-    clause.lits().is_empty()
+    clause.is_empty()
 }
 
 fn adds_empty(line: Line) -> bool
@@ -50,10 +50,15 @@ fn adds_empty(line: Line) -> bool
     }
 }
 
-fn some_is_empty(clauses: &[Clause]) -> bool
+fn some_is_empty(clauses: &ClauseList) -> bool
     ensures { result ≡ list_any is_empty_clause clauses.now }
 {
-    clauses.iter().any(is_empty)
+    for place in 0..clauses.len() {
+        if is_empty(clauses.clause(place)) {
+            return true;
+        }
+    }
+    false
 }
 
 fn any_adds_empty(proof: &Proof) -> bool
@@ -75,7 +80,7 @@ fn some_adds_empty(proof: &Proof) -> bool
 }
 
 /// The verdict, where this is the number of the first line that isn't valid, or each line is.
-fn verdict_after(clauses: &[Clause], proof: &Proof, bad: Option<u64>) -> Verdict
+fn verdict_after(clauses: &ClauseList, proof: &Proof, bad: Option<u64>) -> Verdict
     ensures { result ≡ verdict_from bad
         (list_any is_empty_clause clauses.now
         || list_any (λ row. adds_empty_clause (row_line proof.now row)) proof.now.rows) }
@@ -98,9 +103,8 @@ pub fn check_log(alloc: Global, f: &Formula, p: &Proof) -> Result<Verdict, Memor
         (λ verdict. verdict ≡ verdict_of f.now.clauses (proof_lines p.now)) }
 {
     let clauses = f.clauses();
-    let given = side_by_side(alloc, clauses)?;
     let work = Work {
-        calendar: Calendar::new(alloc, &given, p)?,
+        calendar: Calendar::new(alloc, clauses, p)?,
         proof: p,
         places: places(f),
     };
@@ -147,9 +151,8 @@ pub fn check_log_parallel<R: Threads + Sync, G: Gate>(
 {
     let clauses = f.clauses();
     let rows = p.rows();
-    let given = side_by_side(alloc, clauses)?;
     let work = Work {
-        calendar: Calendar::new(alloc, &given, p)?,
+        calendar: Calendar::new(alloc, clauses, p)?,
         proof: p,
         places: places(f),
     };

@@ -151,8 +151,9 @@ impl Signs {
 /// than literals.
 pub(crate) fn places(f: &Formula) -> usize {
     let mut literals = 0usize;
-    for clause in f.clauses() {
-        literals = literals.saturating_add(clause.lits().len());
+    let clauses = f.clauses();
+    for place in 0..clauses.len() {
+        literals = literals.saturating_add(clauses.clause(place).len());
     }
     1 + literals.min(f.vars() as usize)
 }

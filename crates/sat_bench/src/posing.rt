@@ -5,7 +5,7 @@ ghost use Rattle.cnf_core.specs.Events.{clauses_of, nonempty_steps};
 ghost use Rattle.sat_search.specs.Logs.{IsSound};
 
 use crate::refusal::Refusal;
-use cnf_core::{Formula, Log};
+use cnf_core::{Clause, Formula, Log};
 use ep_base::{FileError, Files, Memory};
 use sat_search::Solver;
 use sat_text::{MOST_BYTES, read_cnf};
@@ -36,8 +36,9 @@ pub fn pose(alloc: Global, formula: &Formula) -> Result<(Solver, Log), Refusal>
     let mut log = Log::new(alloc);
     let mut solver = Solver::new(alloc, &log)?;
     let givens = formula.clauses();
-    for clause in givens {
-        solver.add_given(clause.copied()?, &mut log)?;
+    for place in 0..givens.len() {
+        let clause = Clause::from_ordered(alloc, givens.clause(place))?;
+        solver.add_given(clause, &mut log)?;
     }
     Ok((solver, log))
 }

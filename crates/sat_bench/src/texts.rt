@@ -66,8 +66,11 @@ fn last_valued(formula: &Formula) -> u64 {
 /// The greatest variable that a clause names, or 0 where none does.
 fn greatest_variable(formula: &Formula) -> u64 {
     let mut greatest = 0;
-    for clause in formula.clauses() {
-        greatest = clause.greatest_variable().max(greatest);
+    let clauses = formula.clauses();
+    for place in 0..clauses.len() {
+        if let Some(last) = clauses.clause(place).last() {
+            greatest = last.var().max(greatest);
+        }
     }
     greatest
 }

@@ -8,7 +8,7 @@ ghost use Rattle.cnf_core.specs.Reading.{is_false};
 ghost use Rattle.sat_split.specs.Cubes.{IsFalseIn};
 ghost use Rattle.sat_join.specs.Joins.{ArePlaces, IsPlace, IsRefutedAt, IsWidened};
 
-use cnf_core::{Clause, Event, Lit};
+use cnf_core::{Clause, ClauseList, Event, Lit};
 use ep_base::Memory;
 use std::alloc::Global;
 
@@ -25,15 +25,15 @@ fn is_among(literals: &[Lit], lit: &Lit) -> bool
 }
 
 // Whether a clause has a literal of the cube.
-fn has_one_of(literals: &[Lit], clause: &Clause) -> bool
+fn has_one_of(literals: &[Lit], clause: &[Lit]) -> bool
     ensures { result ≡ list_any (is_among literals.now) clause.now }
 {
-    clause.lits().iter().any(|lit| is_among(literals, lit))
+    clause.iter().any(|lit| is_among(literals, lit))
 }
 
 // The place in the joined log of what a hint names in the log of a cube. None is left of the cube's own literals, and of clauses
 // that one of them makes true.
-fn place_of(givens: &[Clause], literals: &[Lit], first: u64, hint: u64) -> Option<u64>
+fn place_of(givens: &ClauseList, literals: &[Lit], first: u64, hint: u64) -> Option<u64>
     requires { first + hint < 2 ^ 64 }
     ensures { IsPlace givens.now literals.now first hint result }
 {
@@ -45,7 +45,7 @@ fn place_of(givens: &[Clause], literals: &[Lit], first: u64, hint: u64) -> Optio
     if index >= givens.len() {
         return None;
     }
-    if has_one_of(literals, &givens[index]) {
+    if has_one_of(literals, givens.clause(index)) {
         return None;
     }
     Some(hint)
@@ -54,7 +54,7 @@ fn place_of(givens: &[Clause], literals: &[Lit], first: u64, hint: u64) -> Optio
 /// The places in the joined log of what the hints of a cube's step name, where the first step of the cube has this place.
 pub(crate) fn places_of(
     alloc: Global,
-    givens: &[Clause],
+    givens: &ClauseList,
     literals: &[Lit],
     first: u64,
     hints: &[u64],

@@ -9,7 +9,7 @@ ghost use Rattle.sat_merge.specs.Proofs.{IsProved, first_ids};
 ghost use Rattle.sat_proof.specs.Lines.{proof_lines};
 
 use crate::places::places_of;
-use cnf_core::{Clause, Formula, Log};
+use cnf_core::{Clause, ClauseList, Formula, Log};
 use ep_base::Memory;
 use sat_proof::{Line, Proof};
 use std::alloc::Global;
@@ -26,12 +26,12 @@ fn ids_of(alloc: Global, count: usize) -> Result<Vec<u64>, Memory>
 }
 
 /// The place of the first clause that has no literal.
-fn empty_place(clauses: &[Clause]) -> Option<u64>
+fn empty_place(clauses: &ClauseList) -> Option<u64>
     ensures some { IfSome result (λ place. (place < length clauses.now) × (slice_index_or clauses.now place [] ≡ [])) }
     ensures none { IfNone result (list_any is_empty_clause clauses.now ≡ false) }
 {
-    for (place, clause) in clauses.iter().enumerate() {
-        if clause.lits().is_empty() {
+    for place in 0..clauses.len() {
+        if clauses.clause(place).is_empty() {
             return Some(place as u64);
         }
     }

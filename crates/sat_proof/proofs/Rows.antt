@@ -1,43 +1,16 @@
 -- What rows name stays as it is where the lists of a proof grow.
-use Rattle.std.proofs.Common.{◌≡◌, ◌⊎◌, inl, inr, ℕ, ◌+◌, ◌-◌, ◌<◌, ◌≤◌, ℤ, Bool, true, false, cond, ◌&&◌, leb, List, [], ◌∷◌, ◌++◌, length, map, take, drop, refl, sym, ap, ◌∙◌, length-append, arith}
-use Rattle.std.specs.Prelude.{All, OnErr, Result, Ok, Err, slice_range}
+use Rattle.std.proofs.Common.{◌≡◌, ℕ, ℤ, List, [], ◌∷◌, ◌++◌, length, map, refl, sym, ap, ◌∙◌}
+use Rattle.std.specs.Prelude.{All, OnErr, Result, Ok, Err}
 use Rattle.std.specs.List.{AllByRecursion}
-use Rattle.std.proofs.lemmas.Bool.Decides.{nat_tests}
-use Rattle.std.proofs.lemmas.List.{append-nil, map_push, length-drop, take-append-le, drop-append-le, take_all}
+use Rattle.std.proofs.lemmas.List.{append-nil, map_push}
 use Rattle.std.proofs.lemmas.List.Elements.{recursion_from_All}
-use Rattle.std.proofs.Math.Seq.{drop-append_seam}
 use Rattle.cnf_core.specs.Literal.{Literal}
 use Rattle.cnf_core.specs.Lines.{ProofLine, add, delete}
-use Rattle.sat_proof.specs.Lines.{FlatProof, HasPartsOf, part_of, proof_lines, row_line}
+use Rattle.cnf_core.specs.Pieces.{part_of}
+use Rattle.cnf_core.proofs.Pieces.{part_grown, part_last}
+use Rattle.sat_proof.specs.Lines.{FlatProof, HasPartsOf, proof_lines, row_line}
 use Rattle.sat_proof.specs.declared.proof.Row.{Row}
 use Rattle.sat_proof.specs.declared.proof.Row.TheVariants as places
-
--- ---- parts
-
-pub part_grown : {X : Type 0} (xs ys : List X) (from until : ℕ) → until ≤ length xs → part_of (xs ++ ys) from until ≡ part_of xs from until
-part_grown xs ys from until there =
-    let long : leb until (length (xs ++ ys)) ≡ true = grind (arith, nat_tests, length-append) in
-    let was : leb until (length xs) ≡ true = grind (arith, nat_tests) in
-    elim (ordered from until) [
-      | inl le ↦
-          let first : leb from until ≡ true = grind (arith, nat_tests) in
-          let dropped : drop from (xs ++ ys) ≡ drop from xs ++ ys = drop-append-le from xs ys (omega arith) in
-          let size : length (drop from xs) ≡ length xs - from = length-drop from xs in
-          rw (first, long, was) (ap (take (until - from)) dropped ∙ take-append-le (until - from) (drop from xs) ys (omega (arith, size)))
-      | inr gt ↦
-          let first : leb from until ≡ false = grind (arith, nat_tests) in
-          rw first refl
-    ]
-  where
-    ordered : (a b : ℕ) → (a ≤ b) ⊎ (b < a)
-    ordered a b = grind arith
-
-part_added : {X : Type 0} (xs ys : List X) → part_of (xs ++ ys) (length xs) (length (xs ++ ys)) ≡ ys
-part_added xs ys =
-    let size : length (xs ++ ys) ≡ length xs + length ys = length-append xs ys in
-    let first : leb (length xs) (length (xs ++ ys)) ≡ true = grind (arith, nat_tests) in
-    let last : leb (length (xs ++ ys)) (length (xs ++ ys)) ≡ true = grind (arith, nat_tests) in
-    rw (first, last) (ap (take (length (xs ++ ys) - length xs)) (drop-append_seam xs ys) ∙ take_all (length (xs ++ ys) - length xs) ys (omega (arith, size)))
 
 -- ---- rows
 
@@ -82,12 +55,6 @@ line_more : (p q : FlatProof) (literals : List Literal) (hints : List ℤ) (ids 
     → proof_lines q ≡ proof_lines p ++ row_line q row ∷ []
 line_more p q literals hints ids row r l h i has =
     ap (map (row_line q)) r ∙ map_push (row_line q) p.rows row ∙ ap (λ (lines : List ProofLine). lines ++ row_line q row ∷ []) (lines_before p q literals hints ids l h i has)
-
--- what a list has got at its end is its part from there on
-pub part_last : {X : Type 0} (old new more : List X) (from until : ℕ) → new ≡ old ++ more → from ≡ length old → until ≡ length new → part_of new from until ≡ more
-part_last {X} old new more from until is begin end =
-    ap (λ (n : ℕ). part_of new n until) begin ∙ ap (part_of new (length old)) end
-    ∙ ap (λ (xs : List X). part_of xs (length old) (length xs)) is ∙ part_added old more
 
 -- a line more that adds
 pub line_added : (p q : FlatProof) (id from until first last : ℕ) (literals : List Literal) (hints : List ℤ) → q.rows ≡ p.rows ++ places.Add id from until first last ∷ []

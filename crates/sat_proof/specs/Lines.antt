@@ -1,7 +1,8 @@
 -- The lines of a proof, and how they lie in its lists.
-use Rattle.std.specs.Prelude.{◌≤◌, ℕ, ℤ, List, [], All, map, length, nat_le, ◌&&◌, if◌then◌else◌, slice_range}
+use Rattle.std.specs.Prelude.{◌≤◌, ℕ, ℤ, List, All, map, length}
 use Rattle.cnf_core.specs.Literal.{Literal}
 use Rattle.cnf_core.specs.Lines.{ProofLine, add, delete}
+use Rattle.cnf_core.specs.Pieces.{part_of}
 use Rattle.sat_proof.specs.declared.proof.Line.{Line}
 use Rattle.sat_proof.specs.declared.proof.Line.TheVariants as variants
 use Rattle.sat_proof.specs.declared.proof.Row.{Row}
@@ -23,10 +24,6 @@ pub record FlatProof : Type 0 where
 -- the same with plain lists in place of the vectors
 abbrev pub flat_proof : Inside → FlatProof
 flat_proof p = record { rows = p.rows.items; literals = p.literals.items; hints = p.hints.items; ids = p.ids.items }
-
--- the part of a list from a place up to another, or nothing where the list has no such part
-abbrev pub part_of : {X : Type 0} → List X → ℕ → ℕ → List X
-part_of list from until = if nat_le from until && nat_le until (length list) then slice_range list from until else []
 
 -- the line of a row
 abbrev pub row_line : FlatProof → Row → ProofLine

@@ -2,11 +2,9 @@
 //! one list each.
 #![tactic(auto)]
 
-mod lists;
 mod order;
 mod part;
 mod proof;
 
-pub use lists::{Lists, Span};
 pub use order::put_in_order;
 pub use proof::{Line, Proof, Row};

@@ -1,7 +1,7 @@
 //! Parts of lists.
 
 ghost use Rattle.std.specs.Prelude.{◌≡◌};
-ghost use Rattle.sat_proof.specs.Lines.{part_of};
+ghost use Rattle.cnf_core.specs.Pieces.{part_of};
 
 /// The part of a list from a place up to another one, or nothing where it has none.
 pub(crate) fn part<T: Copy>(list: &[T], from: usize, until: usize) -> &[T]

@@ -2,11 +2,11 @@
 
 use crate::numbers::clause;
 use cnf_core::{
-    CellNote, Clause, Condition, Event, Formula, Lit, Log,
+    CellNote, Clause, ClauseList, Condition, Event, Formula, Lit, Log,
     an_effective_step_needs_its_last_literal, keeping_composes, new_steps_are_few,
     no_step_is_effective_after_a_conflict, valid_steps_follow,
 };
-use sat_proof::{Line, Lists, Proof, put_in_order};
+use sat_proof::{Line, Proof, put_in_order};
 use std::test::Fail;
 
 fn is_send_and_sync<T: Send + Sync>() {}
@@ -107,18 +107,20 @@ fn a_proof_holds_lines(rt: HostRuntime) -> Result<(), Fail> {
 }
 
 #[test]
-fn lists_lie_side_by_side(rt: HostRuntime) -> Result<(), Fail> {
-    let mut lists = Lists::new(rt.alloc());
-    lists.push(&[Lit::new(1, true), Lit::new(2, false)])?;
-    lists.push(&[])?;
+fn clauses_lie_side_by_side(rt: HostRuntime) -> Result<(), Fail> {
     let mut found = vec![in rt.alloc(); Lit::new(2, true), Lit::new(1, false), Lit::new(2, true)]?;
     put_in_order(&mut found);
-    lists.push(found.as_slice())?;
+    let first = Clause::from_ordered(rt.alloc(), clause(rt.alloc(), &[1, -2])?.lits())?;
+    let mut list = ClauseList::new(rt.alloc());
+    list.push(first.lits())?;
+    list.push(clause(rt.alloc(), &[])?.lits())?;
+    list.push(clause(rt.alloc(), &[2, -1, 2])?.lits())?;
     let mut sizes = Vec::new(rt.alloc());
-    for span in lists.spans() {
-        sizes.push(lists.list(span).len())?;
+    for place in 0..list.len() {
+        sizes.push(list.clause(place).len())?;
     }
     assert_eq!(rt; sizes.as_slice(), [2, 0, 2].as_slice());
+    assert_eq!(rt; list.clause(2), found.as_slice());
     Ok(())
 }
 

@@ -14,8 +14,8 @@ pub fn given_log(alloc: Global, formula: &Formula) -> Result<Log, Memory>
 {
     let clauses = formula.clauses();
     let mut log = Log::new(alloc);
-    for clause in clauses {
-        log.given(clause.copied()?)?;
+    for place in 0..clauses.len() {
+        log.given(Clause::from_ordered(alloc, clauses.clause(place))?)?;
     }
     Ok(log)
 }

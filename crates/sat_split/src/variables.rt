@@ -5,7 +5,7 @@ ghost use Rattle.cnf_core.specs.Literal.{Literal, IsVariable};
 ghost use Rattle.sat_split.specs.Cubes.{AreCubeVariables};
 ghost use Rattle.sat_split.specs.Found.{IsLeastAbove, least_with_one};
 
-use cnf_core::{Clause, Formula};
+use cnf_core::{ClauseList, Formula, Lit};
 use ep_base::Memory;
 use std::alloc::Global;
 
@@ -24,25 +24,24 @@ fn lesser(above: u64, so_far: Option<u64>, var: u64) -> Option<u64>
 }
 
 // The least variable over a number in clauses and in one more.
-fn least_with(above: u64, so_far: Option<u64>, clause: &Clause) -> Option<u64>
+fn least_with(above: u64, so_far: Option<u64>, clause: &[Lit]) -> Option<u64>
     ensures { (clauses : List (List Literal)) → IsLeastAbove above clauses so_far
         → IsLeastAbove above (clauses ++ clause.now ∷ []) result }
 {
-    let lits = clause.lits();
     let mut least = so_far;
-    for lit in lits {
+    for lit in clause {
         least = lesser(above, least, lit.var());
     }
     least
 }
 
 // The least variable over a number that stands in the clauses.
-fn least_above(above: u64, clauses: &[Clause]) -> Option<u64>
+fn least_above(above: u64, clauses: &ClauseList) -> Option<u64>
     ensures { IsLeastAbove above clauses.now result }
 {
     let mut least = None;
-    for clause in clauses {
-        least = least_with(above, least, clause);
+    for place in 0..clauses.len() {
+        least = least_with(above, least, clauses.clause(place));
     }
     least
 }

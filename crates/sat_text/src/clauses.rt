@@ -9,29 +9,27 @@ ghost use Rattle.sat_text.specs.Cnf.{clauses_of_words, Completes, StopsLine};
 use crate::faults::Stop;
 use crate::items::{is_zero, literal};
 use crate::numbers::whole;
-use crate::proof::clause;
+use crate::proof::order;
 use crate::words::{is_comment_line, next_line, next_word};
 use cnf_core::{Formula, Lit};
 use ep_base::Memory;
 use std::alloc::Global;
 
 /// Adds the clause that was begun, and begins the next one.
-fn end_clause(alloc: Global, f: &mut Formula, begun: &mut Vec<Lit>) -> Result<(), Memory>
+fn end_clause(f: &mut Formula, begun: &mut Vec<Lit>) -> Result<(), Memory>
     requires { VariablesUpTo f.old.vars begun.old.items }
     ensures ok { OnOk result
         (f.new ≡ record f.old { clauses = f.old.clauses ++ in_order begun.old.items ∷ [] }) }
     ensures empty { OnOk result (begun.new.items ≡ []) }
 {
-    // A copy of the right size, so that the room of what was begun serves the next one too.
-    let literals = Vec::from_slice(alloc, begun.as_slice())?;
+    order(begun);
+    f.add_ordered(begun.as_slice())?;
     begun.clear();
-    let made = clause(alloc, literals)?;
-    f.add(made)
+    Ok(())
 }
 
 /// Takes the next word of the clauses.
 fn take_word(
-    alloc: Global,
     f: &mut Formula,
     left: &mut u64,
     begun: &mut Vec<Lit>,
@@ -56,7 +54,7 @@ fn take_word(
         return Err(Stop::At(line));
     };
     if is_zero(number) {
-        end_clause(alloc, f, begun)?;
+        end_clause(f, begun)?;
         *left -= 1;
         return Ok(());
     }
@@ -70,7 +68,6 @@ fn take_word(
 
 /// Takes the words of a line of the clauses.
 fn take_line(
-    alloc: Global,
     f: &mut Formula,
     left: &mut u64,
     begun: &mut Vec<Lit>,
@@ -90,7 +87,7 @@ fn take_line(
 {
     let mut rest = line;
     while let Some((word, after)) = next_word(rest) {
-        take_word(alloc, f, left, begun, number, word)?;
+        take_word(f, left, begun, number, word)?;
         rest = after;
     }
     Ok(())
@@ -122,7 +119,7 @@ pub(crate) fn read_clauses(
     while let Some((line, later)) = next_line(rest) {
         number += 1;
         if !is_comment_line(line) {
-            take_line(alloc, &mut f, &mut left, &mut begun, number, line)?;
+            take_line(&mut f, &mut left, &mut begun, number, line)?;
         }
         rest = later;
     }

@@ -1,7 +1,7 @@
 //! Reads the text of a proof.
 
 ghost use Rattle.std.specs.Prelude.{◌≡◌, ◌<◌, ◌↔◌, [], ℕ, List, length, Ok, Err, IfOk, MatchResult, IsErrOf};
-ghost use Rattle.cnf_core.specs.Literal.{HaveSameLiterals};
+ghost use Rattle.cnf_core.specs.Literal.{HaveSameLiterals, IsOrdered};
 ghost use Rattle.sat_text.specs.Words.{words, says_nothing, most_text_bytes};
 ghost use Rattle.sat_text.specs.Clauses.{in_order};
 ghost use Rattle.sat_text.specs.Proofs.{is_d, addition_at, deletion_at, behind_id, line_of, proof_of};
@@ -14,8 +14,7 @@ use crate::MOST_BYTES;
 use crate::faults::Fault;
 use crate::items::{hints, ids, literals, positive, whole_at};
 use crate::words::{next_line, next_word};
-use cnf_core::{Clause, Lit};
-use ep_base::Memory;
+use cnf_core::Lit;
 use sat_proof::{Proof, put_in_order};
 use std::alloc::{AllocError, AllocFailed, Global};
 
@@ -40,17 +39,11 @@ impl<T: Drop> From<AllocFailed<T>> for LogError {
     }
 }
 
-/// The clause of these literals.
-pub(crate) fn clause(alloc: Global, lits: Vec<Lit>) -> Result<Clause, Memory>
-    ensures made { IfOk result (λ made. made ≡ in_order lits.items) }
-    ensures same { IfOk result (λ made. HaveSameLiterals made lits.items) }
-{
-    Clause::new(alloc, lits)
-}
-
 /// Puts literals in order, and leaves each once.
-fn order(literals: &mut Vec<Lit>)
-    ensures { literals.new.items ≡ in_order literals.old.items }
+pub(crate) fn order(literals: &mut Vec<Lit>)
+    ensures value { literals.new.items ≡ in_order literals.old.items }
+    ensures ordered { IsOrdered literals.new.items }
+    ensures same { HaveSameLiterals literals.new.items literals.old.items }
 {
     put_in_order(literals);
 }

@@ -13,7 +13,7 @@ ghost use Rattle.sat_text.specs.CnfGrammar.{SpellsCnf};
 ghost use Rattle.sat_text.specs.LogGrammar.{SpellsLog};
 ghost use Rattle.sat_text.specs.Writing.{spaced, line_text, log_text, IsReadable, note_text, clause_text, header_text, added_text, cnf_text, IsReadableNote, IsReadableFormula, NamesVariables, SaysAgain};
 
-use cnf_core::{CellNote, Clause, Event, Formula, Lit, Log};
+use cnf_core::{CellNote, ClauseList, Event, Formula, Lit, Log};
 use ep_base::Memory;
 use itoa::Buffer;
 use std::alloc::Global;
@@ -107,11 +107,11 @@ fn put_notes(out: &mut Vec<u8>, notes: &[CellNote]) -> Result<(), Memory>
     Ok(())
 }
 
-fn put_clauses(out: &mut Vec<u8>, clauses: &[Clause]) -> Result<(), Memory>
+fn put_clauses(out: &mut Vec<u8>, clauses: &ClauseList) -> Result<(), Memory>
     ensures { OnOk result (out.new.items ≡ out.old.items ++ flat_map clause_text clauses.now) }
 {
-    for clause in clauses {
-        put_clause(out, clause.lits())?;
+    for place in 0..clauses.len() {
+        put_clause(out, clauses.clause(place))?;
     }
     Ok(())
 }

@@ -13,7 +13,7 @@ returns c =
     let proof = c.args.p.now in
     let calendar = c.in_ok-new.field-0 in
     let bad = c.in_ok-bad.bad in
-    let tells : TellsLives calendar formula (proof_lines proof) = subst (λ (f : List (List Literal)). TellsLives calendar f (proof_lines proof)) c.in_ok-given.ensures c.in_ok-new.ensures in
+    let tells : TellsLives calendar formula (proof_lines proof) = c.in_ok-new.ensures in
     let found : FindsBad calendar 0 (proof_lines proof) bad = subst (λ (rows : List Row). FindsBad calendar 0 (row_lines proof rows) bad) c.rows.ensures c.in_ok-bad.ensures in
     c.verdict_after.ensures
     ∙ verdict_is proof formula proof.rows bad (found_in_whole calendar formula (proof_lines proof) bad tells found)

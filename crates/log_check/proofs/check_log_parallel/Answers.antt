@@ -18,7 +18,7 @@ returns g c =
     let found = c.in_ok-found.found.items in
     let positive : 0 < size = (let most : size ≡ max c.div_ceil.result 1 = c.max-size.ensures in omega (arith, most)) in
     let count : length found ≡ length rows / size + min 1 (length rows % size) = sym (ap length c.deref.ensures.value) ∙ c.deref.ensures.len ∙ c.in_ok-found.ensures.len in
-    let given : TellsLives calendar formula (proof_lines proof) = subst (λ (f : List (List Literal)). TellsLives calendar f (proof_lines proof)) c.in_ok-given.ensures c.in_ok-new.ensures in
+    let given : TellsLives calendar formula (proof_lines proof) = c.in_ok-new.ensures in
     let tells : TellsLives calendar formula (row_lines proof rows) = subst (λ (rs : List Row). TellsLives calendar formula (row_lines proof rs)) (sym c.rows-rows.ensures) given in
     c.verdict_after.ensures
     ∙ verdict_is proof formula proof.rows bad

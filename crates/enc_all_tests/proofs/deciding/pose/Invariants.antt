@@ -3,8 +3,8 @@ use Rattle.cnf_core.specs.Events.{clauses_of, nonempty_steps}
 use Rattle.sat_search.specs.Logs.{IsSound}
 use Rattle.enc_all_tests.proofs.deciding.pose.Given as goal
 
-abbrev pub invariant-loop-clause : goal.invariant-loop-clause
-invariant-loop-clause l = record {
+abbrev pub invariant-loop-place : goal.invariant-loop-place
+invariant-loop-place l = record {
   sound : IsSound l.log.events;
   clauses : l.solver.broken ≡ false → l.solver.clauses ≡ clauses_of l.log.events;
   steps : nonempty_steps l.log.events ≡ 0;

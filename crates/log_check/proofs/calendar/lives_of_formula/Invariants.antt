@@ -1,7 +1,6 @@
 use Rattle.std.proofs.Common.{take, []}
-use Rattle.sat_proof.specs.Lists.{lists_of}
 use Rattle.log_check.specs.Parts.{TellsFirst}
 use Rattle.log_check.proofs.calendar.lives_of_formula.Given as goal
 
 abbrev pub invariant-loop-index : goal.invariant-loop-index
-invariant-loop-index l = TellsFirst l.lives l.index l.until (take l.index (lists_of l.clauses)) []
+invariant-loop-index l = TellsFirst l.lives l.index l.until (take l.index l.clauses) []

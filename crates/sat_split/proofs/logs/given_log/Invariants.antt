@@ -2,5 +2,5 @@ use Rattle.std.specs.Prelude.{◌≡◌, [], take}
 use Rattle.sat_split.specs.Cubes.{all_given}
 use Rattle.sat_split.proofs.logs.given_log.Given as goal
 
-abbrev pub invariant-loop-clause : goal.invariant-loop-clause
-invariant-loop-clause l = l.log ≡ record { events = all_given (take l.clause-index l.clauses); notes = []; base = 0 }
+abbrev pub invariant-loop-place : goal.invariant-loop-place
+invariant-loop-place l = l.log ≡ record { events = all_given (take l.place l.clauses); notes = []; base = 0 }

@@ -4,16 +4,16 @@ use Rattle.cnf_core.specs.Literal.{Literal}
 use Rattle.sat_split.specs.Found.{IsLeastAbove}
 use Rattle.sat_split.proofs.variables.least_above.Goals as goal
 
-pub loop-clause-preserved : goal.loop-clause-preserved
-loop-clause-preserved c =
+pub loop-place-preserved : goal.loop-place-preserved
+loop-place-preserved c =
     let clauses = c.args.clauses.now in
-    let i = c.loop-clause.clause-index in
-    let clause = c.clause-item.result in
+    let k = c.loop-place.place in
+    let clause = c.clause.result.now in
     subst (λ (cs : List (List Literal)). IsLeastAbove c.args.above cs c.least_with-least.result)
-    (sym (take_more clauses i clause c.loop-clause-test.true ∙ ap (λ (x : List Literal). take i clauses ++ x ∷ []) (sym c.clause-item.is)))
-    (c.least_with-least.ensures (take i clauses) c.loop-clause.invariant)
+    (sym (take_more clauses k [] (omega (arith, c.loop-place-test.true, c.len.ensures)) ∙ ap (λ (x : List Literal). take k clauses ++ x ∷ []) (sym c.clause.ensures.value)))
+    (c.least_with-least.ensures (take k clauses) c.loop-place.invariant)
 
 pub returns : goal.returns
 returns c =
-    subst (λ (cs : List (List Literal)). IsLeastAbove c.args.above cs c.loop-clause.least)
-    (take_all c.loop-clause.clause-index c.args.clauses.now (omega (arith, c.loop-clause-test.false))) c.loop-clause.invariant
+    subst (λ (cs : List (List Literal)). IsLeastAbove c.args.above cs c.loop-place.least)
+    (take_all c.loop-place.place c.args.clauses.now (omega (arith, c.loop-place-test.false, c.len.ensures))) c.loop-place.invariant

@@ -1,7 +1,6 @@
 use Rattle.std.proofs.Common.{ℕ, List, [], length, ap, sym, ◌∙◌, subst}
-use Rattle.std.proofs.lemmas.List.{get_or_default, length-map}
+use Rattle.std.proofs.lemmas.List.{get_or_default}
 use Rattle.sat_proof.specs.Lines.{plain_line, row_lines}
-use Rattle.sat_proof.specs.Lists.{list_at, lists_of}
 use Rattle.sat_proof.specs.declared.proof.Row.{Row}
 use Rattle.log_check.specs.Parts.{TellsFirst, TellsLives}
 use Rattle.log_check.proofs.Found.{line_added, line_deleted, line_stops, line_ends}
@@ -10,13 +9,13 @@ use Rattle.log_check.proofs.calendar.Calendar.new.Goals.{in-Add+else-id-newest+i
 
 pub loop-index-init : goal.loop-index-init
 loop-index-init c =
-    subst (λ (n : ℕ). TellsFirst c.in_ok-lives.lives n (length c.rows-rows.result.now) (lists_of c.args.clauses.now) [])
-    (length-map c.args.clauses.now.spans (list_at c.args.clauses.now) ∙ ap length (sym c.spans-given.ensures)) c.in_ok-lives.ensures
+    subst (λ (n : ℕ). TellsFirst c.in_ok-lives.lives n (length c.rows-rows.result.now) c.args.clauses.now [])
+    (sym c.len-given.ensures) c.in_ok-lives.ensures
 
 pub loop-index-preserved : goal.loop-index-preserved
 loop-index-preserved c =
     let p = c.args.proof.now in
-    let formula = lists_of c.args.clauses.now in
+    let formula = c.args.clauses.now in
     let rows = c.rows-rows.result.now in
     elim c.match-line.branch [
       | in-Add+else-id-newest+in_ok-put-in-Add w ↦
@@ -28,7 +27,7 @@ loop-index-preserved c =
 pub returns-then-id-newest : goal.returns-then-id-newest
 returns-then-id-newest c =
     let p = c.args.proof.now in
-    let formula = lists_of c.args.clauses.now in
+    let formula = c.args.clauses.now in
     let rows = c.rows-rows.result.now in
     subst (λ (rs : List Row). TellsLives (record { lives = c.loop-index.lives; ordered = c.loop-index.index }) formula (row_lines p rs)) c.rows-rows.ensures
     (line_stops p c.loop-index.lives c.loop-index.newest c.in-Add.id c.in-Add.clause.now formula rows c.loop-index.index _ c.in-Add.hints.now c.loop-index-test.true (get_or_default rows c.loop-index.index _ _ c.loop-index-test.true) (sym c.line.ensures ∙ ap plain_line c.in-Add.is) c.loop-index.invariant c.if-id-newest.true)
@@ -36,7 +35,7 @@ returns-then-id-newest c =
 pub returns : goal.returns
 returns c =
     let p = c.args.proof.now in
-    let formula = lists_of c.args.clauses.now in
+    let formula = c.args.clauses.now in
     let rows = c.rows-rows.result.now in
     subst (λ (rs : List Row). TellsLives (record { lives = c.loop-index.lives; ordered = length rows }) formula (row_lines p rs)) c.rows-rows.ensures
     (line_ends p c.loop-index.lives c.loop-index.newest formula rows c.loop-index.index c.loop-index-test.false c.loop-index.invariant)
