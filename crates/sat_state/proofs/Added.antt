@@ -1,5 +1,5 @@
 -- A clause that is added, with the two literals that it watches.
-use Rattle.std.proofs.Common.{◌≡◌, ◌≢◌, ℕ, suc, ◌+◌, ◌*◌, ◌/◌, ◌<◌, ◌≤◌, Bool, true, false, List, [], ◌∷◌, ◌++◌, length, take, get_or, set, All, Contains, sym, ap, ◌∙◌, subst, inl, inr, ◌⊎◌, ⊎_elim, arith}
+use Rattle.std.proofs.Common.{◌≡◌, ◌≢◌, ℕ, suc, ◌+◌, ◌*◌, ◌/◌, ◌<◌, ◌≤◌, Bool, true, false, List, [], ◌∷◌, ◌++◌, length, take, get_or, set, All, Contains, refl, sym, ap, ◌∙◌, subst, inl, inr, ◌⊎◌, ⊎_elim, arith}
 use Rattle.std.proofs.lemmas.Bool.{cases_eq, cases_lt, true≢false}
 use Rattle.std.proofs.lemmas.List.{get_or_append_left, get_or_push, get_or-append-add, get_or-set_same, get_or-set_other, length-set, length-append, length_push, get_or-take}
 use Rattle.std.proofs.lemmas.List.Elements.{All-push, All-contains}
@@ -7,16 +7,17 @@ use Rattle.cnf_core.specs.Literal.{Literal, negation, code_of, IsOrdered, Preced
 use Rattle.cnf_core.proofs.Members.{Contains-here, Contains-there, Contains-cases, none_in_nil}
 use Rattle.sat_state.specs.Trail.{Entry, literals, level_of, IsOpenBelow}
 use Rattle.sat_state.specs.Stored.{clause_at}
-use Rattle.sat_state.specs.Watching.{no_lit, lit_at}
+use Rattle.sat_state.specs.Watching.{no_lit, lit_at, far_at, listed_at, IsInSomeList, links}
 use Rattle.sat_state.specs.Guards.{is_false, IsFresh, ArePartners, IsPair, AreWatched}
-use Rattle.sat_state.specs.Tiered.{far_at}
-use Rattle.sat_state.specs.Joined.{AreJoined, IsNotLow, HasHigh, place_in_queue, heads_of}
+use Rattle.sat_state.specs.declared.list.Watch.{Watch}
+use Rattle.sat_state.specs.Joined.{AreJoined, IsNotLow, HasHigh, IsOfClause, uses, place_in_queue, heads_of}
 use Rattle.sat_state.specs.declared.parts.Parts.{Parts}
 use Rattle.sat_state.proofs.Literals.{Contains-from_among, among_from_Contains}
-use Rattle.sat_state.proofs.Linked.{literal_again}
+use Rattle.sat_state.proofs.Codes.{literal_again}
 use Rattle.sat_state.specs.WatchesInside.{literal_at}
 use Rattle.sat_state.proofs.Ends.{grounded_more}
 use Rattle.sat_state.proofs.Guarded.{literal_of_entry, entry_at_place}
+use Rattle.sat_state.proofs.Used.{links_below, links_set, links_more}
 
 -- ---- some literal can be watched
 
@@ -154,10 +155,9 @@ module _ (clauses : List (List Literal)) (lits : List Literal) (trail : List Ent
         rw (old_clause (e / 2) old, same e (old_place e old), same f (old_place f old_f))
         (w.pairs e f p (old_place e old) (subst (λ (c : List Literal). 2 ≤ length c) (old_clause (e / 2) old) lg)))
         (cases_eq (e / 2) n);
-    guarded = λ e f p lt lg.
+    guarded = λ e lt lg.
         let old : e / 2 < n = omega (arith, lt, within) in
-        let old_f : f / 2 < n = omega (arith, old, p.clause) in
-        rw (stays e (old_place e old), same e (old_place e old), same f (old_place f old_f)) (w.guarded e f p lt (subst (λ (c : List Literal). 2 ≤ length c) (old_clause (e / 2) old) lg));
+        rw (stays e (old_place e old), old_clause (e / 2) old, same e (old_place e old)) (w.guarded e lt (subst (λ (c : List Literal). 2 ≤ length c) (old_clause (e / 2) old) lg));
     fresh = λ e f p lt le lg. ⊎_elim
         (λ (is : e / 2 ≡ n).
         subst (λ (c : List Literal). IsFresh trail (then e) c (lit_at now e) (lit_at now f)) (sym (new_clause (e / 2) is)) (new.fresh e f p is (subst (λ (c : List Literal). 2 ≤ length c) (new_clause (e / 2) is) lg)))
@@ -251,8 +251,11 @@ tier_before_two fars n a b size x lt =
 pub joined_added : (old new : Parts) (clause : List Literal) → AreJoined old → (level_of old.assigned.trail ≡ 0) ⊎ IsOpenBelow old.assigned.trail clause → VariablesUpTo old.assigned.vars clause → IsClause clause
     → length new.watches.lits ≡ length old.watches.lits + 2 → ((x : ℕ) → x < length old.watches.lits → lit_at new.watches.lits x ≡ lit_at old.watches.lits x)
     → length new.watches.fars ≡ length old.watches.fars + 2 → ((x : ℕ) → x < length old.watches.fars → far_at new.watches.fars x ≡ far_at old.watches.fars x) → IsNew old.assigned.trail (heads_of old.queue new.watches.fars) (length old.clauses.lists) clause new.watches.lits
-    → new.clauses.lists ≡ old.clauses.lists ++ clause ∷ [] → new.watches.lists ≡ old.watches.lists → new.assigned ≡ old.assigned → new.queue ≡ old.queue → AreJoined new
-joined_added old new clause j may known is_clause size same more stays fresh clauses lists assigned queue = record {
+    → new.clauses.lists ≡ old.clauses.lists ++ clause ∷ [] → old.watches.lists ≤ new.watches.lists
+    → ((x : Watch) → IsInSomeList new.watches.stands x → IsInSomeList old.watches.stands x ⊎ IsOfClause (old.clauses.lists ++ clause ∷ []) new.watches.lits x)
+    → ((c : ℕ) → uses (old.clauses.lists ++ clause ∷ []) c ≤ (listed_at new.watches.stands c).room)
+    → new.assigned ≡ old.assigned → new.queue ≡ old.queue → AreJoined new
+joined_added old new clause j may known is_clause size same more stays fresh clauses lists stays_in rooms assigned queue = record {
   grounded = rw (clauses, assigned) (grounded_more old.clauses.lists clause old.assigned.trail j.grounded may);
   watched = rw (clauses, assigned, queue)
       (watched_added old.clauses.lists old.watches.lits old.assigned.trail old.queue.checked (heads_of old.queue old.watches.fars) j.watched j.checked_in clause new.watches.lits (heads_of old.queue new.watches.fars) size same
@@ -261,7 +264,75 @@ joined_added old new clause j may known is_clause size same more stays fresh cla
   head_in = rw (assigned, queue) j.head_in;
   present = rw (assigned, queue) j.present;
   fars = omega (arith, size, more, j.fars);
-  lists = rw (lists, assigned) j.lists;
+  lists = omega (arith, lists, j.lists, ap (λ (a : Rattle.sat_state.specs.Assigned.TrailState). a.vars) assigned);
+  blockers = λ x s.
+      rw clauses
+      (⊎_elim
+      (λ (stood : IsInSomeList old.watches.stands x).
+      let is = j.blockers x stood in
+      let there : x.entry / 2 < length old.clauses.lists = omega (arith, is.there, j.watched.entries) in
+      let now : IsOfClause (old.clauses.lists ++ clause ∷ []) new.watches.lits x = record {
+        there = omega (arith, is.there, size);
+        in_clause = subst (λ (c : List Literal). Contains c x.blocker) (sym (get_or_append_left old.clauses.lists (clause ∷ []) [] (x.entry / 2) there)) is.in_clause;
+      } in now)
+      (λ (is : IsOfClause (old.clauses.lists ++ clause ∷ []) new.watches.lits x). is)
+      (stays_in x s));
+  rooms = rw clauses rooms;
   in_range = rw (clauses, assigned) (All-push (VariablesUpTo old.assigned.vars) old.clauses.lists clause j.in_range known);
   clauses = rw clauses (All-push IsClause old.clauses.lists clause j.clauses is_clause);
 }
+
+-- ---- room for the two entries of a new clause
+
+-- a watch of the new clause
+pub both_of : (clauses : List (List Literal)) (clause lits : List Literal) (x : Watch) (e : ℕ) (l : Literal) → x ≡ record { entry = e; blocker = l } → e / 2 ≡ length clauses → e < length lits → Contains clause l → IsOfClause (clauses ++ clause ∷ []) lits x
+both_of clauses clause lits x e l is place there in_clause =
+    subst (IsOfClause (clauses ++ clause ∷ []) lits) (sym is)
+    (record { there = there; in_clause = subst (λ (c : List Literal). Contains c l) (sym (get_or_push clauses clause [] (e / 2) (sym place))) in_clause })
+
+module _ (old : Parts) (clause : List Literal) (a b : Literal) (j : AreJoined old) (long : 2 ≤ length clause) (pick : ArePicked old.assigned.trail clause a b) where
+  abbrev blank : List Literal
+  blank = old.watches.lits ++ no_lit ∷ no_lit ∷ []
+
+  abbrev place : ℕ
+  place = 2 * length old.clauses.lists
+
+  abbrev one_set : List Literal
+  one_set = set blank place a
+
+  abbrev both_set : List Literal
+  both_set = set one_set (place + 1) b
+
+  blank_size : length blank ≡ place + 2
+  blank_size = omega (arith, length-append old.watches.lits (no_lit ∷ no_lit ∷ []), j.watched.entries)
+
+  none_first : lit_at blank place ≡ no_lit
+  none_first = last_two old.watches.lits place (length old.clauses.lists) j.watched.entries (let e : (2 * length old.clauses.lists) / 2 ≡ length old.clauses.lists = omega arith in e)
+
+  none_second : lit_at one_set (place + 1) ≡ no_lit
+  none_second =
+      get_or-set_other blank place (place + 1) a no_lit (λ same. absurd (omega (arith, same)))
+      ∙ last_two old.watches.lits (place + 1) (length old.clauses.lists) j.watched.entries (let e : (2 * length old.clauses.lists + 1) / 2 ≡ length old.clauses.lists = omega arith in e)
+
+  both_below : (code : ℕ) → 2 ≤ code → links both_set code ≤ uses (old.clauses.lists ++ clause ∷ []) code
+  both_below code some =
+      let heads = heads_of old.queue old.watches.fars in
+      let size : length both_set ≡ length old.watches.lits + 2 = omega (arith, length-set one_set (place + 1) b, length-set blank place a, blank_size, j.watched.entries) in
+      links_below (old.clauses.lists ++ clause ∷ []) both_set old.assigned.trail old.queue.checked heads
+      (watched_added old.clauses.lists old.watches.lits old.assigned.trail old.queue.checked heads j.watched j.checked_in clause both_set heads size
+      (same_before_two old.watches.lits (length old.clauses.lists) a b j.watched.entries) (λ x lt. refl)
+      (new_long old.assigned.trail heads (length old.clauses.lists) clause old.watches.lits a b j.watched.entries long pick))
+      code some
+
+  pub added_first : 2 ≤ code_of a → links blank (code_of a) < uses (old.clauses.lists ++ clause ∷ []) (code_of a)
+  added_first some =
+      omega (
+        arith,
+        links_set blank place a (omega (arith, blank_size)) none_first some,
+        links_more one_set (place + 1) b (code_of a) (omega (arith, length-set blank place a, blank_size)) none_second some,
+        both_below (code_of a) some,
+      )
+
+  pub added_second : 2 ≤ code_of b → links one_set (code_of b) < uses (old.clauses.lists ++ clause ∷ []) (code_of b)
+  added_second some =
+      omega (arith, links_set one_set (place + 1) b (omega (arith, length-set blank place a, blank_size)) none_second some, both_below (code_of b) some)

@@ -9,11 +9,12 @@ use Rattle.cnf_core.proofs.Members.{Contains-here, Contains-cases, none_in_nil}
 use Rattle.sat_state.specs.Trail.{Entry, literals, level_of, next_level, trail_value, Gives, IsFalsified, IsGrounded}
 use Rattle.sat_state.specs.Stored.{Stored, clause_at}
 use Rattle.sat_state.specs.Assigned.{TrailState}
-use Rattle.sat_state.specs.Watching.{no_lit, lit_at}
-use Rattle.sat_state.specs.Tiered.{far_at, IsNext}
+use Rattle.sat_state.specs.Watching.{no_lit, lit_at, far_at, listed_at, IsInSomeList, links, IsNext}
+use Rattle.sat_state.specs.declared.list.Watch.{Watch}
+use Rattle.sat_state.specs.Listed.{Listed}
 use Rattle.sat_state.specs.View.{IsGuarded}
-use Rattle.sat_state.specs.Guards.{is_false, IsTrueBy, IsPair, ArePartners, AreWatched}
-use Rattle.sat_state.specs.Joined.{AreJoined, GoesOn, IsAllSeen, IsInWalk, IsWalking, some_entry, place_in_queue, heads_of}
+use Rattle.sat_state.specs.Guards.{is_false, Guards, IsPair, ArePartners, AreWatched}
+use Rattle.sat_state.specs.Joined.{AreJoined, GoesOn, IsAllSeen, IsInWalk, IsWalking, IsOfClause, uses, some_entry, place_in_queue, heads_of}
 use Rattle.sat_state.specs.declared.parts.Queue.{Queue}
 use Rattle.sat_state.specs.declared.parts.Parts.{Parts}
 use Rattle.sat_state.proofs.Literals.{Contains-from_among}
@@ -21,6 +22,7 @@ use Rattle.sat_state.proofs.Levels.{level_push, levels_within}
 use Rattle.sat_state.proofs.Settling.{front_again}
 use Rattle.sat_state.proofs.Ends.{consistent, apart_from_grounded, not_among, none_falsified}
 use Rattle.sat_state.proofs.Grounds.{grounded_push, next_stands, literals_push}
+use Rattle.sat_state.proofs.Used.{links_below, links_set}
 use Rattle.sat_state.proofs.Guarded.{turned, literals_grow, watched_push, watched_checked, watched_walked, watched_moved, at_end, watched_back}
 
 -- a literal that is neither true nor false is of a variable without a value
@@ -73,31 +75,92 @@ module _ (p : Parts) (j : AreJoined p) where
       code_small v true = omega arith
       code_small v false = omega arith
 
+-- what stands in the new lists stood in the old ones, or is of its clause too
+pub record StandsAs (clauses : List (List Literal)) (lits : List Literal) (old new : List Listed) : Type 0 where
+  pub each : (x : Watch) → IsInSomeList new x → IsInSomeList old x ⊎ IsOfClause clauses lits x
+
+-- there is no less room in any list
+pub record HasRoomOf (old new : List Listed) : Type 0 where
+  pub each : (c : ℕ) → (listed_at old c).room ≤ (listed_at new c).room
+
+of_clause_again : (old new : Parts) (x : Watch) → new.clauses.lists ≡ old.clauses.lists → length new.watches.lits ≡ length old.watches.lits → IsOfClause old.clauses.lists old.watches.lits x → IsOfClause new.clauses.lists new.watches.lits x
+of_clause_again old new x clauses size is = record {
+  there = omega (arith, is.there, size);
+  in_clause = subst (λ (cs : List (List Literal)). Contains (clause_at cs (x.entry / 2)) x.blocker) (sym clauses) is.in_clause;
+}
+
+blockers_again : (old new : Parts) → AreJoined old → new.clauses.lists ≡ old.clauses.lists → length new.watches.lits ≡ length old.watches.lits → StandsAs old.clauses.lists old.watches.lits old.watches.stands new.watches.stands → (x : Watch) → IsInSomeList new.watches.stands x → IsOfClause new.clauses.lists new.watches.lits x
+blockers_again old new j clauses size stays_in x s =
+    of_clause_again old new x clauses size
+    (⊎_elim (λ (stood : IsInSomeList old.watches.stands x). j.blockers x stood) (λ (is : IsOfClause old.clauses.lists old.watches.lits x). is) (stays_in.each x s))
+
+rooms_again : (old new : Parts) → AreJoined old → new.clauses.lists ≡ old.clauses.lists → HasRoomOf old.watches.stands new.watches.stands → (c : ℕ) → uses new.clauses.lists c ≤ (listed_at new.watches.stands c).room
+rooms_again old new j clauses room c = omega (arith, ap (λ (cs : List (List Literal)). uses cs c) clauses, j.rooms c, room.each c)
+
 -- the same clauses, watched literals, trail and queue
-pub joined_same : (old new : Parts) → AreJoined old → new.clauses.lists ≡ old.clauses.lists → new.watches.lits ≡ old.watches.lits → new.watches.fars ≡ old.watches.fars → new.watches.lists ≡ old.watches.lists → new.assigned ≡ old.assigned → new.queue ≡ old.queue → AreJoined new
-joined_same old new j clauses lits fars lists assigned queue = record {
+pub joined_same : (old new : Parts) → AreJoined old → new.clauses.lists ≡ old.clauses.lists → new.watches.lits ≡ old.watches.lits → new.watches.fars ≡ old.watches.fars → old.watches.lists ≤ new.watches.lists → StandsAs old.clauses.lists old.watches.lits old.watches.stands new.watches.stands → HasRoomOf old.watches.stands new.watches.stands → new.assigned ≡ old.assigned → new.queue ≡ old.queue → AreJoined new
+joined_same old new j clauses lits fars lists stays_in room assigned queue = record {
   grounded = rw (clauses, assigned) j.grounded;
   watched = rw (clauses, lits, fars, assigned, queue) j.watched;
   checked_in = rw (clauses, queue) j.checked_in;
   head_in = rw (assigned, queue) j.head_in;
   present = rw (assigned, queue) j.present;
   fars = rw (lits, fars) j.fars;
-  lists = rw (lists, assigned) j.lists;
+  lists = omega (arith, lists, j.lists, ap (λ (a : TrailState). a.vars) assigned);
+  blockers = blockers_again old new j clauses (ap length lits) stays_in;
+  rooms = rooms_again old new j clauses room;
   in_range = rw (clauses, assigned) j.in_range;
   clauses = rw clauses j.clauses;
 }
 
-pub goes_same : (old new : Parts) → AreJoined old → new.clauses.lists ≡ old.clauses.lists → new.watches.lits ≡ old.watches.lits → new.watches.fars ≡ old.watches.fars → new.watches.lists ≡ old.watches.lists → new.assigned ≡ old.assigned → new.queue ≡ old.queue → GoesOn old new
-goes_same old new j clauses lits fars lists assigned queue = record {
-  joined = joined_same old new j clauses lits fars lists assigned queue;
+pub goes_same : (old new : Parts) → AreJoined old → new.clauses.lists ≡ old.clauses.lists → new.watches.lits ≡ old.watches.lits → new.watches.fars ≡ old.watches.fars → old.watches.lists ≤ new.watches.lists → StandsAs old.clauses.lists old.watches.lits old.watches.stands new.watches.stands → HasRoomOf old.watches.stands new.watches.stands → new.assigned ≡ old.assigned → new.queue ≡ old.queue → GoesOn old new
+goes_same old new j clauses lits fars lists stays_in room assigned queue = record {
+  joined = joined_same old new j clauses lits fars lists stays_in room assigned queue;
   clauses = clauses;
   vars = ap (λ (a : TrailState). a.vars) assigned;
   front = ap (λ (a : TrailState). take (length old.assigned.trail) a.trail) assigned ∙ take_all (length old.assigned.trail) old.assigned.trail (omega arith);
   level = ap (λ (a : TrailState). level_of a.trail) assigned;
 }
 
+-- where no list changed
+pub stands_still : (clauses : List (List Literal)) (lits : List Literal) (old new : List Listed) → new ≡ old → StandsAs clauses lits old new
+stands_still clauses lits old new same = record { each = λ x s. inl (subst (λ (ls : List Listed). IsInSomeList ls x) same s) }
+
+pub room_still : (old new : List Listed) → new ≡ old → HasRoomOf old new
+room_still old new same = record { each = λ c. omega (arith, ap (λ (ls : List Listed). (listed_at ls c).room) same) }
+
+-- where each list has what it had, if there was one
+pub stands_alike : (clauses : List (List Literal)) (lits : List Literal) (old new : List Listed) → ((c : ℕ) → (listed_at new c).watches ≡ (listed_at old c).watches) → StandsAs clauses lits old new
+stands_alike clauses lits old new same = record {
+  each = λ x s.
+      let stood : IsInSomeList old x = record { code = s.code; there = subst (λ (ws : List Watch). Contains ws x) (same s.code) s.there } in
+      inl stood;
+}
+
+pub no_fewer : (old new : ℕ) → new ≡ old → old ≤ new
+no_fewer old new same = omega (arith, same)
+
 pub goes_here : (p : Parts) → AreJoined p → GoesOn p p
-goes_here p j = goes_same p p j refl refl refl refl refl refl
+goes_here p j = goes_same p p j refl refl refl (omega arith) (stands_still p.clauses.lists p.watches.lits p.watches.stands p.watches.stands refl) (room_still p.watches.stands p.watches.stands refl) refl refl
+
+-- more variables are known
+pub joined_grown : (old new : Parts) → AreJoined old → new.clauses ≡ old.clauses → new.watches ≡ old.watches → new.queue ≡ old.queue → new.assigned.trail ≡ old.assigned.trail → old.assigned.vars ≤ new.assigned.vars → 2 * new.assigned.vars + 2 ≤ old.watches.lists
+    → AreJoined new
+joined_grown old new j clauses watches queue trail more lists = record {
+  grounded = rw (clauses, trail) j.grounded;
+  watched = rw (clauses, watches, queue, trail) j.watched;
+  checked_in = rw (clauses, queue) j.checked_in;
+  head_in = rw (queue, trail) j.head_in;
+  present = rw (queue, trail) j.present;
+  fars = rw watches j.fars;
+  lists = rw watches lists;
+  blockers = rw (clauses, watches) j.blockers;
+  rooms = rw (clauses, watches) j.rooms;
+  in_range = rw clauses
+      (All-weaker (VariablesUpTo old.assigned.vars) (VariablesUpTo new.assigned.vars)
+      (λ clause all. All-weaker (λ (l : Literal). l.var ≤ old.assigned.vars) (λ (l : Literal). l.var ≤ new.assigned.vars) (λ l le. omega (arith, le, more)) clause all) old.clauses.lists j.in_range);
+  clauses = rw clauses j.clauses;
+}
 
 pub goes_again : (first second third : Parts) → GoesOn first second → GoesOn second third → GoesOn first third
 goes_again first second third one two = record {
@@ -129,6 +192,8 @@ goes_forced old new l number j there gives free clauses watches queue vars more 
             (All-push (λ (e : Entry). e.level ≡ level_of trail) (drop h trail) x (j.present far) (omega arith))));
         fars = rw watches j.fars;
         lists = rw (watches, vars) j.lists;
+        blockers = rw (clauses, watches) j.blockers;
+        rooms = rw (clauses, watches) j.rooms;
         in_range = rw (clauses, vars) j.in_range;
         clauses = rw clauses j.clauses;
       };
@@ -153,6 +218,8 @@ goes_checked old j there settled new is =
         present = λ far. j.present far;
         fars = j.fars;
         lists = j.lists;
+        blockers = j.blockers;
+        rooms = j.rooms;
         in_range = j.in_range;
         clauses = j.clauses;
       };
@@ -207,11 +274,11 @@ pub goes_walked : (old : Parts) → AreJoined old → IsWalking old → old.watc
 goes_walked old j w none queue step new is =
     let trail = old.assigned.trail in
     let tier = λ (e : ℕ). far_at old.watches.fars e in
-    let each : (e : ℕ) → tier e ≡ old.watches.walks_far → e < length old.watches.lits → lit_at old.watches.lits e ≡ old.watches.walked → (f : ℕ) → ArePartners e f → Contains (literals trail) (lit_at old.watches.lits f)
-    = λ e far lt same f p. ⊎_elim
+    let each : (e : ℕ) → tier e ≡ old.watches.walks_far → e < length old.watches.lits → lit_at old.watches.lits e ≡ old.watches.walked → HasTrueLiteral (literals trail) (clause_at old.clauses.lists (e / 2))
+    = λ e far lt same. ⊎_elim
     (λ (waits : Contains old.watches.waiting e). absurd (none_in_nil e (subst (λ (ws : List ℕ). Contains ws e) none waits)))
-    (λ (done : Contains (literals trail) (lit_at old.watches.lits f)). done)
-    (w.partners e f p (record { there = lt; literal = same; tier = far })) in
+    (λ (done : HasTrueLiteral (literals trail) (clause_at old.clauses.lists (e / 2))). done)
+    (w.satisfied e (record { there = lt; literal = same; tier = far })) in
     let watched = watched_walked old.clauses.lists old.watches.lits trail old.queue.checked (heads_of old.queue old.watches.fars) j.watched (joined_consistent old j) (joined_low old j) w.checked
     (place_in_queue old.queue old.watches.walks_far) w.more old.watches.walked w.walked (next_level_is old j old.watches.walks_far w.more) (heads_of queue old.watches.fars)
     (λ e. ⊎_elim
@@ -235,6 +302,8 @@ goes_walked old j w none queue step new is =
             (stepped old.watches.walks_far old.queue queue step far);
         fars = j.fars;
         lists = j.lists;
+        blockers = j.blockers;
+        rooms = j.rooms;
         in_range = j.in_range;
         clauses = j.clauses;
       };
@@ -264,12 +333,16 @@ shorter_by_one waiting now e is same = omega (arith, ap length is, ap length sam
 same_partner : (e f x : ℕ) → ArePartners e f → ArePartners x f → x ≡ e
 same_partner e f x p q = omega (arith, p.clause, q.clause, p.apart, q.apart)
 
-module _ (old : Parts) (j : AreJoined old) (w : IsWalking old) (e : ℕ) (next : IsNext old.watches e) where
-  pub entry_clause : e / 2 < length old.clauses.lists
+module _ (old : Parts) (j : AreJoined old) (w : IsWalking old) (v : Watch) (next : IsNext old.watches v) where
+  pub entry_clause : v.entry / 2 < length old.clauses.lists
   entry_clause = omega (arith, next.there, j.watched.entries)
 
-  pub entry_long : 1 ≤ old.watches.walked.var → 2 ≤ length (clause_at old.clauses.lists (e / 2))
-  entry_long some = j.watched.long e next.there (subst (λ (l : Literal). 1 ≤ l.var) (sym next.walked) some)
+  pub entry_long : 1 ≤ old.watches.walked.var → 2 ≤ length (clause_at old.clauses.lists (v.entry / 2))
+  entry_long some = j.watched.long v.entry next.there (subst (λ (l : Literal). 1 ≤ l.var) (sym next.walked) some)
+
+  -- the literal beside the entry is of its clause
+  pub blocker_in : Contains (clause_at old.clauses.lists (v.entry / 2)) v.blocker
+  blocker_in = (j.blockers v next.stands).in_clause
 
   -- the literal that is walked is false
   pub walked_false : Contains (literals old.assigned.trail) (negation old.watches.walked)
@@ -278,51 +351,51 @@ module _ (old : Parts) (j : AreJoined old) (w : IsWalking old) (e : ℕ) (next :
       (Rattle.sat_state.proofs.Guarded.literal_of_entry old.assigned.trail (get_or old.assigned.trail (place_in_queue old.queue old.watches.walks_far) some_entry)
       (Rattle.sat_state.proofs.Guarded.entry_at_place old.assigned.trail (place_in_queue old.queue old.watches.walks_far) some_entry w.more))
 
-  -- the entry is kept where the other literal is true
-  pub walking_kept : (f : ℕ) → ArePartners e f → (new : Parts) → Contains (literals new.assigned.trail) (lit_at old.watches.lits f) → ((l : Literal) → Contains (literals old.assigned.trail) l → Contains (literals new.assigned.trail) l)
+  -- the entry is kept where its clause has a true literal
+  pub walking_kept : (new : Parts) → HasTrueLiteral (literals new.assigned.trail) (clause_at old.clauses.lists (v.entry / 2)) → ((l : Literal) → Contains (literals old.assigned.trail) l → Contains (literals new.assigned.trail) l)
       → get_or new.assigned.trail (place_in_queue old.queue old.watches.walks_far) some_entry ≡ get_or old.assigned.trail (place_in_queue old.queue old.watches.walks_far) some_entry → length old.assigned.trail ≤ length new.assigned.trail
       → new.clauses.lists ≡ old.clauses.lists → new.queue ≡ old.queue → new.watches.lits ≡ old.watches.lits → new.watches.fars ≡ old.watches.fars → new.watches.walked ≡ old.watches.walked → new.watches.walks_far ≡ old.watches.walks_far → new.watches.waiting ≡ drop 1 old.watches.waiting → IsWalking new
-  walking_kept f p new is_true grows at longer clauses queue lits fars walked walks_far waiting = record {
+  walking_kept new is_true grows at longer clauses queue lits fars walked walks_far waiting = record {
     checked = rw (clauses, queue) w.checked;
     more = rw (queue, walks_far) (omega (arith, w.more, longer));
     some = rw walked w.some;
     walked = rw (queue, walks_far) (ap (λ (x : Entry). x.literal) at ∙ w.walked ∙ ap negation (sym walked));
-    partners = λ x y q in_walk.
+    satisfied = λ x in_walk.
         let old_in : IsInWalk old x = record {
           there = omega (arith, in_walk.there, ap length lits);
           literal = ap (λ (ls : List Literal). lit_at ls x) (sym lits) ∙ in_walk.literal ∙ walked;
           tier = ap (λ (fs : List Bool). far_at fs x) (sym fars) ∙ in_walk.tier ∙ walks_far;
         } in
+        let trues = literals new.assigned.trail in
         ⊎_elim
-        (λ (here : x ≡ e).
-        let q_e : ArePartners e y = subst (λ (z : ℕ). ArePartners z y) here q in
-        let one : y ≡ f = same_partner f e y (turned e f p) (turned e y q_e) in
-        inr (subst (λ (ls : List Literal). Contains (literals new.assigned.trail) (lit_at ls y)) (sym lits)
-        (subst (λ (z : ℕ). Contains (literals new.assigned.trail) (lit_at old.watches.lits z)) (sym one) is_true)))
-        (λ (ne : x ≢ e). ⊎_elim
-        (λ (waits : Contains old.watches.waiting x). inl (subst (λ (ws : List ℕ). Contains ws x) (sym waiting) (rest_of old.watches.waiting e x next.first waits ne)))
-        (λ (done : Contains (literals old.assigned.trail) (lit_at old.watches.lits y)).
-        inr (subst (λ (ls : List Literal). Contains (literals new.assigned.trail) (lit_at ls y)) (sym lits) (grows (lit_at old.watches.lits y) done)))
-        (w.partners x y q old_in))
-        (cases_eq x e);
+        (λ (here : x ≡ v.entry).
+        inr (subst (λ (z : ℕ). HasTrueLiteral trues (clause_at new.clauses.lists (z / 2))) (sym here)
+        (subst (λ (cs : List (List Literal)). HasTrueLiteral trues (clause_at cs (v.entry / 2))) (sym clauses) is_true)))
+        (λ (ne : x ≢ v.entry). ⊎_elim
+        (λ (waits : Contains old.watches.waiting x). inl (subst (λ (ws : List ℕ). Contains ws x) (sym waiting) (rest_of old.watches.waiting v.entry x next.first waits ne)))
+        (λ (done : HasTrueLiteral (literals old.assigned.trail) (clause_at old.clauses.lists (x / 2))).
+        inr (subst (λ (cs : List (List Literal)). HasTrueLiteral trues (clause_at cs (x / 2))) (sym clauses) (done.0, done.1, grows done.0 done.2)))
+        (w.satisfied x old_in))
+        (cases_eq x v.entry);
   }
 
   -- the entry moves to another literal of its clause, which isn't false
-  module _ (l : Literal) (lg : 2 ≤ length (clause_at old.clauses.lists (e / 2))) (in_clause : Contains (clause_at old.clauses.lists (e / 2)) l) (not_false : is_false (literals old.assigned.trail) l ≡ false)
-      (f : ℕ) (p : ArePartners e f) (not_other : l ≢ lit_at old.watches.lits f) (new : Parts) (assigned : new.assigned ≡ old.assigned) (clauses : new.clauses.lists ≡ old.clauses.lists) (queue : new.queue ≡ old.queue)
-      (lists : new.watches.lists ≡ old.watches.lists) (walked : new.watches.walked ≡ old.watches.walked) (walks_far : new.watches.walks_far ≡ old.watches.walks_far) (waiting : new.watches.waiting ≡ drop 1 old.watches.waiting)
-      (lits : new.watches.lits ≡ set (set old.watches.lits e no_lit) e l) (far : Bool) (fars : new.watches.fars ≡ set (set old.watches.fars e false) e far) where
+  module _ (l : Literal) (lg : 2 ≤ length (clause_at old.clauses.lists (v.entry / 2))) (in_clause : Contains (clause_at old.clauses.lists (v.entry / 2)) l) (not_false : is_false (literals old.assigned.trail) l ≡ false)
+      (f : ℕ) (p : ArePartners v.entry f) (not_other : l ≢ lit_at old.watches.lits f) (new : Parts) (assigned : new.assigned ≡ old.assigned) (clauses : new.clauses.lists ≡ old.clauses.lists) (queue : new.queue ≡ old.queue)
+      (lists : old.watches.lists ≤ new.watches.lists) (walked : new.watches.walked ≡ old.watches.walked) (walks_far : new.watches.walks_far ≡ old.watches.walks_far) (waiting : new.watches.waiting ≡ drop 1 old.watches.waiting)
+      (lits : new.watches.lits ≡ set (set old.watches.lits v.entry no_lit) v.entry l) (far : Bool) (fars : new.watches.fars ≡ set (set old.watches.fars v.entry false) v.entry far)
+      (stays_in : StandsAs old.clauses.lists old.watches.lits old.watches.stands new.watches.stands) (room : HasRoomOf old.watches.stands new.watches.stands) where
     size : length new.watches.lits ≡ length old.watches.lits
-    size = ap length lits ∙ length-set (set old.watches.lits e no_lit) e l ∙ length-set old.watches.lits e no_lit
+    size = ap length lits ∙ length-set (set old.watches.lits v.entry no_lit) v.entry l ∙ length-set old.watches.lits v.entry no_lit
 
-    at : lit_at new.watches.lits e ≡ l
-    at = ap (λ (ls : List Literal). lit_at ls e) lits ∙ get_or-set_same (set old.watches.lits e no_lit) e l no_lit (omega (arith, next.there, length-set old.watches.lits e no_lit))
+    at : lit_at new.watches.lits v.entry ≡ l
+    at = ap (λ (ls : List Literal). lit_at ls v.entry) lits ∙ get_or-set_same (set old.watches.lits v.entry no_lit) v.entry l no_lit (omega (arith, next.there, length-set old.watches.lits v.entry no_lit))
 
-    others : (x : ℕ) → x ≢ e → lit_at new.watches.lits x ≡ lit_at old.watches.lits x
-    others x ne = ap (λ (ls : List Literal). lit_at ls x) lits ∙ get_or-set_other (set old.watches.lits e no_lit) e x l no_lit ne ∙ get_or-set_other old.watches.lits e x no_lit no_lit ne
+    others : (x : ℕ) → x ≢ v.entry → lit_at new.watches.lits x ≡ lit_at old.watches.lits x
+    others x ne = ap (λ (ls : List Literal). lit_at ls x) lits ∙ get_or-set_other (set old.watches.lits v.entry no_lit) v.entry x l no_lit ne ∙ get_or-set_other old.watches.lits v.entry x no_lit no_lit ne
 
-    tiers : (x : ℕ) → x ≢ e → far_at new.watches.fars x ≡ far_at old.watches.fars x
-    tiers x ne = ap (λ (fs : List Bool). far_at fs x) fars ∙ get_or-set_other (set old.watches.fars e false) e x far false ne ∙ get_or-set_other old.watches.fars e x false false ne
+    tiers : (x : ℕ) → x ≢ v.entry → far_at new.watches.fars x ≡ far_at old.watches.fars x
+    tiers x ne = ap (λ (fs : List Bool). far_at fs x) fars ∙ get_or-set_other (set old.watches.fars v.entry false) v.entry x far false ne ∙ get_or-set_other old.watches.fars v.entry x false false ne
 
     pub goes_moved : GoesOn old new
     goes_moved = record {
@@ -330,14 +403,15 @@ module _ (old : Parts) (j : AreJoined old) (w : IsWalking old) (e : ℕ) (next :
         grounded = rw (clauses, assigned) j.grounded;
         watched = rw (clauses, assigned, queue)
             (watched_moved old.clauses.lists old.watches.lits old.assigned.trail old.queue.checked (heads_of old.queue old.watches.fars) j.watched (joined_consistent old j) (joined_low old j) w.checked new.watches.lits
-            (heads_of old.queue new.watches.fars) e old.watches.walked l size next.there at others (λ x ne. ap (place_in_queue old.queue) (tiers x ne)) next.walked
-            walked_false lg in_clause (λ g q. subst (λ (z : ℕ). l ≢ lit_at old.watches.lits z) (sym (same_partner f e g (turned e f p) (turned e g q))) not_other)
+            (heads_of old.queue new.watches.fars) v.entry l size next.there at others (λ x ne. ap (place_in_queue old.queue) (tiers x ne)) lg in_clause (λ g q. subst (λ (z : ℕ). l ≢ lit_at old.watches.lits z) (sym (same_partner f v.entry g (turned v.entry f p) (turned v.entry g q))) not_other)
             (not_among (literals old.assigned.trail) (negation l) not_false));
         checked_in = rw (clauses, queue) j.checked_in;
         head_in = rw (assigned, queue) j.head_in;
         present = rw (assigned, queue) j.present;
-        fars = omega (arith, ap length fars, length-set (set old.watches.fars e false) e far, length-set old.watches.fars e false, size, j.fars);
-        lists = rw (lists, assigned) j.lists;
+        fars = omega (arith, ap length fars, length-set (set old.watches.fars v.entry false) v.entry far, length-set old.watches.fars v.entry false, size, j.fars);
+        lists = omega (arith, lists, j.lists, ap (λ (a : TrailState). a.vars) assigned);
+        blockers = blockers_again old new j clauses size stays_in;
+        rooms = rooms_again old new j clauses room;
         in_range = rw (clauses, assigned) j.in_range;
         clauses = rw clauses j.clauses;
       };
@@ -356,22 +430,16 @@ module _ (old : Parts) (j : AreJoined old) (w : IsWalking old) (e : ℕ) (next :
       more = rw (assigned, queue, walks_far) w.more;
       some = rw walked w.some;
       walked = rw (assigned, queue, walked, walks_far) w.walked;
-      partners = λ x y q in_walk. ⊎_elim
-          (λ (here : x ≡ e). absurd (not_walked (sym at ∙ ap (lit_at new.watches.lits) (sym here) ∙ in_walk.literal ∙ walked)))
-          (λ (ne : x ≢ e).
+      satisfied = λ x in_walk. ⊎_elim
+          (λ (here : x ≡ v.entry). absurd (not_walked (sym at ∙ ap (lit_at new.watches.lits) (sym here) ∙ in_walk.literal ∙ walked)))
+          (λ (ne : x ≢ v.entry).
           let old_in : IsInWalk old x
           = record { there = omega (arith, in_walk.there, size); literal = sym (others x ne) ∙ in_walk.literal ∙ walked; tier = sym (tiers x ne) ∙ in_walk.tier ∙ walks_far } in
           ⊎_elim
-          (λ (waits : Contains old.watches.waiting x). inl (subst (λ (ws : List ℕ). Contains ws x) (sym waiting) (rest_of old.watches.waiting e x next.first waits ne)))
-          (λ (done : Contains (literals old.assigned.trail) (lit_at old.watches.lits y)). ⊎_elim
-          (λ (there : y ≡ e).
-          let q_e : ArePartners e x = turned x e (subst (λ (z : ℕ). ArePartners x z) there q) in
-          let place : e / 2 ≡ e / 2 = refl in
-          absurd ((j.watched.pairs e x q_e next.there lg).two (next.walked ∙ sym old_in.literal)))
-          (λ (nf : y ≢ e). inr (subst (λ (z : Literal). Contains (literals new.assigned.trail) z) (sym (others y nf)) (rw assigned done)))
-          (cases_eq y e))
-          (w.partners x y q old_in))
-          (cases_eq x e);
+          (λ (waits : Contains old.watches.waiting x). inl (subst (λ (ws : List ℕ). Contains ws x) (sym waiting) (rest_of old.watches.waiting v.entry x next.first waits ne)))
+          (λ (done : HasTrueLiteral (literals old.assigned.trail) (clause_at old.clauses.lists (x / 2))). inr (rw (assigned, clauses) done))
+          (w.satisfied x old_in))
+          (cases_eq x v.entry);
     }
 
 none_behind : (trail : List Entry) (head : ℕ) (P : Entry → Type 0) → head ≡ length trail → All P (drop head trail)
@@ -397,6 +465,8 @@ joined_decided old new l j seen ends free clauses watches queue vars more =
           (none_behind trail h (λ (e : Entry). e.level ≡ level_of (trail ++ x ∷ [])) (seen.head far)) (omega (arith, level_push trail x))));
       fars = rw watches j.fars;
       lists = rw (watches, vars) j.lists;
+      blockers = rw (clauses, watches) j.blockers;
+      rooms = rw (clauses, watches) j.rooms;
       in_range = rw (clauses, vars) j.in_range;
       clauses = rw clauses j.clauses;
     }
@@ -417,11 +487,31 @@ joined_back old new level j lower grounded clauses watches checked near far vars
       present = λ far. none_behind new.assigned.trail (place_in_queue new.queue far) (λ (e : Entry). e.level ≡ level_of new.assigned.trail) (head far);
       fars = rw watches j.fars;
       lists = rw (watches, vars) j.lists;
+      blockers = rw (clauses, watches) j.blockers;
+      rooms = rw (clauses, watches) j.rooms;
       in_range = rw (clauses, vars) j.in_range;
       clauses = rw clauses j.clauses;
     }
 
 -- ---- what the literals of a clause are
+
+code_most_by : (v : ℕ) (p : Bool) → code_of (record { var = v; positive = p }) ≤ 2 * v + 1
+code_most_by v true = omega arith
+code_most_by v false = omega arith
+
+pub code_most : (l : Literal) → code_of l ≤ 2 * l.var + 1
+code_most l = code_most_by l.var l.positive
+
+-- the lists of two numbers of variables are those of the greater
+pub most_within : (a b n : ℕ) → 2 * a + 2 ≤ n → 2 * b + 2 ≤ n → 2 * Rattle.std.proofs.Common.max a b + 2 ≤ n
+most_within a b n first second = omega (arith, first, second)
+
+code_two_by : (v : ℕ) (p : Bool) → 1 ≤ v → 2 ≤ code_of (record { var = v; positive = p })
+code_two_by v true some = omega (arith, some)
+code_two_by v false some = omega (arith, some)
+
+pub code_two : (l : Literal) → 1 ≤ l.var → 2 ≤ code_of l
+code_two l some = code_two_by l.var l.positive some
 
 -- a literal of a variable has a code
 pub code_some : (l : Literal) → 1 ≤ l.var → code_of l ≢ 0
@@ -464,22 +554,49 @@ falsified_by trues clause one falsified none =
       | inr ne ↦ Contains-from_among trues (negation (get_or clause k d)) (none k d h ne)
     ]
 
-module _ (old : Parts) (j : AreJoined old) (w : IsWalking old) (e : ℕ) (next : IsNext old.watches e) (f : ℕ) (p : ArePartners e f) where
+module _ (old : Parts) (j : AreJoined old) (w : IsWalking old) (v : Watch) (next : IsNext old.watches v) (f : ℕ) (p : ArePartners v.entry f) where
   pub other_there : f < length old.watches.lits
-  other_there = omega (arith, entry_clause old j w e next, p.clause, j.watched.entries)
+  other_there = omega (arith, entry_clause old j w v next, p.clause, j.watched.entries)
 
-  pub other_pair : IsPair (clause_at old.clauses.lists (e / 2)) (lit_at old.watches.lits f) (lit_at old.watches.lits e)
+  pub other_pair : IsPair (clause_at old.clauses.lists (v.entry / 2)) (lit_at old.watches.lits f) (lit_at old.watches.lits v.entry)
   other_pair =
-      let lg = entry_long old j w e next w.some in
-      subst (λ (n : ℕ). IsPair (clause_at old.clauses.lists n) (lit_at old.watches.lits f) (lit_at old.watches.lits e)) (sym p.clause)
-      (j.watched.pairs f e (turned e f p) other_there (subst (λ (n : ℕ). 2 ≤ length (clause_at old.clauses.lists n)) p.clause lg))
+      let lg = entry_long old j w v next w.some in
+      subst (λ (n : ℕ). IsPair (clause_at old.clauses.lists n) (lit_at old.watches.lits f) (lit_at old.watches.lits v.entry)) (sym p.clause)
+      (j.watched.pairs f v.entry (turned v.entry f p) other_there (subst (λ (n : ℕ). 2 ≤ length (clause_at old.clauses.lists n)) p.clause lg))
 
   pub other_var : 1 ≤ (lit_at old.watches.lits f).var
-  other_var = var_some old j (e / 2) (lit_at old.watches.lits f) (entry_clause old j w e next) other_pair.in_clause
+  other_var = var_some old j (v.entry / 2) (lit_at old.watches.lits f) (entry_clause old j w v next) other_pair.in_clause
+
+  -- so is the entry beside the other literal
+  pub beside_other : (x : Watch) → x ≡ record { entry = v.entry; blocker = lit_at old.watches.lits f } → IsOfClause old.clauses.lists old.watches.lits x
+  beside_other x is = subst (IsOfClause old.clauses.lists old.watches.lits) (sym is) (record { there = next.there; in_clause = other_pair.in_clause })
 
   pub open_not_walked : (l : Literal) → is_false (literals old.assigned.trail) l ≡ false → l ≢ old.watches.walked
   open_not_walked l not_false same =
-      not_among (literals old.assigned.trail) (negation l) not_false (subst (λ (x : Literal). Contains (literals old.assigned.trail) (negation x)) (sym same) (walked_false old j w e next))
+      not_among (literals old.assigned.trail) (negation l) not_false (subst (λ (x : Literal). Contains (literals old.assigned.trail) (negation x)) (sym same) (walked_false old j w v next))
+
+-- where the entry moves, there is room in the list of the literal
+module _ (old : Parts) (j : AreJoined old) (w : IsWalking old) (v : Watch) (next : IsNext old.watches v) (l : Literal) (lg : 2 ≤ length (clause_at old.clauses.lists (v.entry / 2))) (in_clause : Contains (clause_at old.clauses.lists (v.entry / 2)) l)
+    (not_false : is_false (literals old.assigned.trail) l ≡ false) (f : ℕ) (p : ArePartners v.entry f) (not_other : l ≢ lit_at old.watches.lits f) where
+  abbrev without : List Literal
+  without = set old.watches.lits v.entry no_lit
+
+  pub moved_links : links without (code_of l) < uses old.clauses.lists (code_of l)
+  moved_links =
+      let e = v.entry in
+      let now = set without e l in
+      let trail = old.assigned.trail in
+      let heads = heads_of old.queue old.watches.fars in
+      let size : length without ≡ length old.watches.lits = length-set old.watches.lits e no_lit in
+      let there : e < length without = omega (arith, next.there, size) in
+      let none : lit_at without e ≡ no_lit = get_or-set_same old.watches.lits e no_lit no_lit next.there in
+      let some : 2 ≤ code_of l = code_two l (var_some old j (e / 2) l (entry_clause old j w v next) in_clause) in
+      let watched = watched_moved old.clauses.lists old.watches.lits trail old.queue.checked heads j.watched (joined_consistent old j) (joined_low old j) w.checked now heads e l
+      (length-set without e l ∙ size) next.there (get_or-set_same without e l no_lit there)
+      (λ x ne. get_or-set_other without e x l no_lit ne ∙ get_or-set_other old.watches.lits e x no_lit no_lit ne) (λ x ne. refl) lg in_clause
+      (λ g q. subst (λ (z : ℕ). l ≢ lit_at old.watches.lits z) (sym (same_partner f e g (turned e f p) (turned e g q))) not_other)
+      (not_among (literals trail) (negation l) not_false) in
+      omega (arith, links_set without e l there none some, links_below old.clauses.lists now trail old.queue.checked heads watched (code_of l) some)
 
 pub first_is : (waiting : List ℕ) (e : ℕ) → waiting ≡ e ∷ drop 1 waiting → get_or waiting 0 0 ≡ e
 first_is waiting e is = ap (λ (ws : List ℕ). get_or ws 0 0) is
@@ -521,16 +638,23 @@ module _ (p : Parts) (j : AreJoined p) (n : ℕ) (there : n < length p.clauses.l
   pub second_var : 1 ≤ (lit_at p.watches.lits (2 * n + 1)).var
   second_var = var_some p j n (lit_at p.watches.lits (2 * n + 1)) there second_pair.in_clause
 
-  pub first_guard : IsAllSeen p → IsGuarded p.assigned.trail (lit_at p.watches.lits (2 * n)) (lit_at p.watches.lits (2 * n + 1))
-  first_guard seen =
-      let a = lit_at p.watches.lits (2 * n) in
-      let b = lit_at p.watches.lits (2 * n + 1) in
-      subst (All (λ (e : Entry). e.literal ≡ negation a → IsTrueBy p.assigned.trail b e.level)) (take_all (heads_of p.queue p.watches.fars (2 * n)) p.assigned.trail (omega (arith, seen.head (far_at p.watches.fars (2 * n)))))
-      (j.watched.guarded (2 * n) (2 * n + 1) sides (omega (arith, first_place, seen.checked, there)) first_long)
+  whole_guard : (e : ℕ) → e / 2 ≡ n → IsAllSeen p → Guards p.assigned.trail (length p.assigned.trail) (lit_at p.watches.lits e) (clause_at p.clauses.lists n)
+  whole_guard e place seen =
+      let long : 2 ≤ length (clause_at p.clauses.lists (e / 2)) = subst (λ (k : ℕ). 2 ≤ length (clause_at p.clauses.lists k)) (sym place) lg in
+      subst (λ (k : ℕ). Guards p.assigned.trail (length p.assigned.trail) (lit_at p.watches.lits e) (clause_at p.clauses.lists k)) place
+      (subst (λ (k : ℕ). Guards p.assigned.trail k (lit_at p.watches.lits e) (clause_at p.clauses.lists (e / 2))) (seen.head (far_at p.watches.fars e))
+      (j.watched.guarded e (omega (arith, place, seen.checked, there)) long))
 
-  pub second_guard : IsAllSeen p → IsGuarded p.assigned.trail (lit_at p.watches.lits (2 * n + 1)) (lit_at p.watches.lits (2 * n))
-  second_guard seen =
-      let a = lit_at p.watches.lits (2 * n + 1) in
-      let b = lit_at p.watches.lits (2 * n) in
-      subst (All (λ (e : Entry). e.literal ≡ negation a → IsTrueBy p.assigned.trail b e.level)) (take_all (heads_of p.queue p.watches.fars (2 * n + 1)) p.assigned.trail (omega (arith, seen.head (far_at p.watches.fars (2 * n + 1)))))
-      (j.watched.guarded (2 * n + 1) (2 * n) (turned (2 * n) (2 * n + 1) sides) (omega (arith, second_place, seen.checked, there)) second_long)
+  pub first_guard : IsAllSeen p → Guards p.assigned.trail (length p.assigned.trail) (lit_at p.watches.lits (2 * n)) (clause_at p.clauses.lists n)
+  first_guard = whole_guard (2 * n) first_place
+
+  pub second_guard : IsAllSeen p → Guards p.assigned.trail (length p.assigned.trail) (lit_at p.watches.lits (2 * n + 1)) (clause_at p.clauses.lists n)
+  second_guard = whole_guard (2 * n + 1) second_place
+
+-- ---- the literal that guards a false one
+
+-- a literal that isn't false is guarded by any
+pub guarded_open : (trail : List Entry) (l other : Literal) → (Contains (literals trail) (negation l) → ⊥) → IsGuarded trail l other
+guarded_open trail l other true_yet k d h is =
+    absurd (true_yet (subst (λ (x : Literal). Contains (literals trail) x) is
+    (Rattle.sat_state.proofs.Guarded.literal_of_entry trail (get_or trail k d) (Rattle.sat_state.proofs.Guarded.entry_at_place trail k d h))))

@@ -1,5 +1,5 @@
 -- Watched literals, as literals become true, as clauses are looked at, and as entries move.
-use Rattle.std.proofs.Common.{◌≡◌, ◌≢◌, ℕ, ◌+◌, ◌-◌, ◌*◌, ◌/◌, ◌<◌, ◌≤◌, true, false, List, [], ◌∷◌, ◌++◌, length, take, drop, get_or, filter, nat_le, All, Contains, refl, sym, ap, ◌∙◌, subst, inl, inr, ◌⊎◌, ⊎_elim, arith}
+use Rattle.std.proofs.Common.{◌≡◌, ◌≢◌, ℕ, ◌+◌, ◌-◌, ◌*◌, ◌/◌, ◌%◌, ◌<◌, ◌≤◌, true, false, List, [], ◌∷◌, ◌++◌, length, take, drop, get_or, filter, nat_le, All, Contains, sym, ap, ◌∙◌, subst, inl, inr, ◌⊎◌, ⊎_elim, arith}
 use Rattle.std.proofs.lemmas.Bool.{cases_eq, cases_lt, cases_Bool, le-leb}
 use Rattle.std.proofs.lemmas.Bool.Decides.{nat_tests}
 use Rattle.std.proofs.lemmas.List.{get_or_default, get_or-map, length-map, take-append-le, take_all, get_or-take, get_or-drop, length-drop, length-take, length-take-le, length-append, get_or_append_left, get_or_push}
@@ -10,7 +10,7 @@ use Rattle.cnf_core.proofs.Members.{Contains-here, Contains-cases, none_in_nil, 
 use Rattle.sat_state.specs.Trail.{Entry, literals, level_of}
 use Rattle.sat_state.specs.Stored.{clause_at}
 use Rattle.sat_state.specs.Watching.{no_lit, lit_at}
-use Rattle.sat_state.specs.Guards.{is_false, IsTrueBy, Guards, AreOthersFalse, ArePartners, IsPair, AreWatched}
+use Rattle.sat_state.specs.Guards.{is_false, IsTrueBy, HasTrueBy, Guards, AreOthersFalse, ArePartners, IsPair, AreWatched}
 use Rattle.sat_state.specs.Joined.{some_entry}
 use Rattle.sat_state.proofs.Literals.{Contains-from_among, negation-negation}
 use Rattle.sat_state.proofs.Ends.{same_or_not, not_among}
@@ -55,15 +55,23 @@ is_true_by trail l n t = subst (λ (x : Literal). Contains (literals trail) x) t
 pub literals_grow : (trail : List Entry) (x : Entry) (l : Literal) → Contains (literals trail) l → Contains (literals (trail ++ x ∷ [])) l
 literals_grow trail x l h = subst (λ (ls : List Literal). Contains ls l) (sym (literals_push trail x)) (Contains-append_left (literals trail) (x.literal ∷ []) l h)
 
-guards_at : (trail : List Entry) (head : ℕ) (a c b d : Literal) → a ≡ c → b ≡ d → Guards trail head c d → Guards trail head a b
-guards_at trail head a c b d p q h =
-    subst (λ (x : Literal). Guards trail head x b) (sym p) (subst (λ (y : Literal). Guards trail head c y) (sym q) h)
+-- what makes each literal that is true true by a lower entry makes a clause true
+pub true_more : (old new : List Entry) (clause : List Literal) (n : ℕ) → ((l : Literal) → IsTrueBy old l n → IsTrueBy new l n) → HasTrueBy old clause n → HasTrueBy new clause n
+true_more old new clause n more t = record { literal = t.literal; in_clause = t.in_clause; is_true = more t.literal t.is_true }
 
 pair_at : (clause : List Literal) (a c b d : Literal) → a ≡ c → b ≡ d → IsPair clause c d → IsPair clause a b
 pair_at clause a c b d p q h = record { in_clause = subst (λ (x : Literal). Contains clause x) (sym p) h.in_clause; two = λ e. h.two (sym p ∙ e ∙ q) }
 
 pub turned : (e f : ℕ) → ArePartners e f → ArePartners f e
 turned e f p = record { clause = sym p.clause; apart = λ same. p.apart (sym same) }
+
+-- the other entry of the clause of an entry
+pub partner_of : ℕ → ℕ
+partner_of e = 2 * (e / 2) + (1 - e % 2)
+
+pub is_partner : (e : ℕ) → ArePartners e (partner_of e)
+unfolding partner_of
+is_partner e = record { clause = omega arith; apart = λ same. absurd (omega (arith, same)) }
 
 module _ (clauses : List (List Literal)) (lits : List Literal) (trail : List Entry) (checked : ℕ) (heads : ℕ → ℕ) (w : AreWatched clauses lits trail checked heads) where
   entry_in : (e : ℕ) → e / 2 < length clauses → e < length lits
@@ -84,12 +92,12 @@ module _ (clauses : List (List Literal)) (lits : List Literal) (trail : List Ent
         entries = w.entries;
         long = w.long;
         pairs = w.pairs;
-        guarded = λ e f p lt lg.
+        guarded = λ e lt lg.
             let a = lit_at lits e in
-            let b = lit_at lits f in
-            subst (All (λ (z : Entry). z.literal ≡ negation a → IsTrueBy more b z.level)) (sym (taken e))
-            (All-weaker (λ (z : Entry). z.literal ≡ negation a → IsTrueBy trail b z.level) (λ (z : Entry). z.literal ≡ negation a → IsTrueBy more b z.level)
-            (λ z h is. grows b z.level (h is)) (take (heads e) trail) (w.guarded e f p lt lg));
+            let clause = clause_at clauses (e / 2) in
+            subst (All (λ (z : Entry). z.literal ≡ negation a → HasTrueBy more clause z.level)) (sym (taken e))
+            (All-weaker (λ (z : Entry). z.literal ≡ negation a → HasTrueBy trail clause z.level) (λ (z : Entry). z.literal ≡ negation a → HasTrueBy more clause z.level)
+            (λ z h is. true_more trail more clause z.level (λ l. grows l z.level) (h is)) (take (heads e) trail) (w.guarded e lt lg));
         fresh = λ e f p lt le lg.
             let a = lit_at lits e in
             let b = lit_at lits f in
@@ -149,16 +157,22 @@ module _ (clauses : List (List Literal)) (lits : List Literal) (trail : List Ent
       entries = w.entries;
       long = w.long;
       pairs = w.pairs;
-      guarded = λ e f p lt lg. ⊎_elim
+      guarded = λ e lt lg. ⊎_elim
           (λ (same : e / 2 ≡ checked).
+          let f = partner_of e in
+          let p : ArePartners e f = is_partner e in
           let a = lit_at lits e in
           let b = lit_at lits f in
           let clause = clause_at clauses (e / 2) in
+          let in_e : e < length lits = entry_in e (omega (arith, same, there)) in
+          let in_f : f < length lits = entry_in f (omega (arith, same, there, p.clause)) in
+          let b_in : Contains clause b
+          = subst (λ (n : ℕ). Contains (clause_at clauses n) b) (sym p.clause) (w.pairs f e (turned e f p) in_f (subst (λ (n : ℕ). 2 ≤ length (clause_at clauses n)) p.clause lg)).in_clause in
           let here = subst (λ (c : ℕ). HasTrueLiteral (literals trail) (clause_at clauses c) ⊎ HasTwoNotFalse (literals trail) (clause_at clauses c)) (sym same) settled in
-          All-weaker (λ (z : Entry). z.literal ≡ negation a → (z.level ≡ level_of trail) × AreOthersFalse (literals trail) clause b) (λ (z : Entry). z.literal ≡ negation a → IsTrueBy trail b z.level)
-          (λ z h is. settled_true clause b z.level here (h is)) (take (heads e) trail)
-          (w.fresh e f p (entry_in e (omega (arith, same, there))) (omega (arith, same)) lg))
-          (λ (ne : e / 2 ≢ checked). w.guarded e f p (omega (arith, lt, ne)) lg)
+          All-weaker (λ (z : Entry). z.literal ≡ negation a → (z.level ≡ level_of trail) × AreOthersFalse (literals trail) clause b) (λ (z : Entry). z.literal ≡ negation a → HasTrueBy trail clause z.level)
+          (λ z h is. record { literal = b; in_clause = b_in; is_true = settled_true clause b z.level here (h is) }) (take (heads e) trail)
+          (w.fresh e f p in_e (omega (arith, same)) lg))
+          (λ (ne : e / 2 ≢ checked). w.guarded e (omega (arith, lt, ne)) lg)
           (cases_eq (e / 2) checked);
       fresh = λ e f p lt le lg. w.fresh e f p lt (omega (arith, le)) lg;
       short = λ c lt small. ⊎_elim
@@ -176,7 +190,7 @@ module _ (clauses : List (List Literal)) (lits : List Literal) (trail : List Ent
     -- how far the lists of an entry are walked, after the list of the entry at a place was
     abbrev pub IsWalked : (place : ℕ) (walked : Literal) (e now : ℕ) → Type 0
     IsWalked place walked e now =
-        (now ≡ heads e) ⊎ ((now ≡ heads e + 1) × (heads e ≡ place) × (e < length lits → lit_at lits e ≡ walked → (f : ℕ) → ArePartners e f → Contains (literals trail) (lit_at lits f)))
+        (now ≡ heads e) ⊎ ((now ≡ heads e + 1) × (heads e ≡ place) × (e < length lits → lit_at lits e ≡ walked → HasTrueLiteral (literals trail) (clause_at clauses (e / 2))))
 
     pub watched_walked : checked ≡ length clauses → (place : ℕ) → place < length trail → (walked : Literal) → (get_or trail place some_entry).literal ≡ negation walked → (get_or trail place some_entry).level ≡ level_of trail
         → (now : ℕ → ℕ) → ((e : ℕ) → IsWalked place walked e (now e)) → AreWatched clauses lits trail checked now
@@ -184,19 +198,24 @@ module _ (clauses : List (List Literal)) (lits : List Literal) (trail : List Ent
       entries = w.entries;
       long = w.long;
       pairs = w.pairs;
-      guarded = λ e f p lt lg.
+      guarded = λ e lt lg.
           let a = lit_at lits e in
-          let b = lit_at lits f in
+          let clause = clause_at clauses (e / 2) in
           ⊎_elim
-          (λ (same : now e ≡ heads e). subst (λ (n : ℕ). Guards trail n a b) (sym same) (w.guarded e f p lt lg))
-          (λ (step : (now e ≡ heads e + 1) × (heads e ≡ place) × (e < length lits → lit_at lits e ≡ walked → (g : ℕ) → ArePartners e g → Contains (literals trail) (lit_at lits g))).
-          let old : Guards trail place a b = subst (λ (n : ℕ). Guards trail n a b) step.1 (w.guarded e f p lt lg) in
+          (λ (same : now e ≡ heads e). subst (λ (n : ℕ). Guards trail n a clause) (sym same) (w.guarded e lt lg))
+          (λ (step : (now e ≡ heads e + 1) × (heads e ≡ place) × (e < length lits → lit_at lits e ≡ walked → HasTrueLiteral (literals trail) (clause_at clauses (e / 2)))).
+          let old : Guards trail place a clause = subst (λ (n : ℕ). Guards trail n a clause) step.1 (w.guarded e lt lg) in
           let next : now e ≡ place + 1 = step.0 ∙ ap (λ (n : ℕ). n + 1) step.1 in
-          subst (λ (n : ℕ). Guards trail n a b) (sym next)
-          (All-more (λ (z : Entry). z.literal ≡ negation a → IsTrueBy trail b z.level) trail place some_entry more old
+          subst (λ (n : ℕ). Guards trail n a clause) (sym next)
+          (All-more (λ (z : Entry). z.literal ≡ negation a → HasTrueBy trail clause z.level) trail place some_entry more old
           (λ at.
           let same : a ≡ walked = sym (negation-negation a) ∙ ap negation (sym at ∙ is) ∙ negation-negation walked in
-          true_by trail b (get_or trail place some_entry).level (step.2 (entry_in e (omega (arith, lt, all))) same f p) (subst (λ (m : ℕ). All (λ (z : Entry). z.level ≤ m) trail) (sym level) low))))
+          let found = step.2 (entry_in e (omega (arith, lt, all))) same in
+          record {
+            literal = found.0;
+            in_clause = found.1;
+            is_true = true_by trail found.0 (get_or trail place some_entry).level found.2 (subst (λ (m : ℕ). All (λ (z : Entry). z.level ≤ m) trail) (sym level) low);
+          })))
           (steps e);
       fresh = λ e f p lt le lg. absurd (omega (arith, clause_in e lt, le, all));
       short = w.short;
@@ -205,10 +224,10 @@ module _ (clauses : List (List Literal)) (lits : List Literal) (trail : List Ent
 
     -- ---- an entry moves to a literal that isn't false
 
-    pub watched_moved : checked ≡ length clauses → (now : List Literal) (then : ℕ → ℕ) (e : ℕ) (walked l : Literal) → length now ≡ length lits → e < length lits → lit_at now e ≡ l → ((x : ℕ) → x ≢ e → lit_at now x ≡ lit_at lits x) → ((x : ℕ) → x ≢ e → then x ≡ heads x)
-        → lit_at lits e ≡ walked → Contains (literals trail) (negation walked) → 2 ≤ length (clause_at clauses (e / 2)) → Contains (clause_at clauses (e / 2)) l
+    pub watched_moved : checked ≡ length clauses → (now : List Literal) (then : ℕ → ℕ) (e : ℕ) (l : Literal) → length now ≡ length lits → e < length lits → lit_at now e ≡ l → ((x : ℕ) → x ≢ e → lit_at now x ≡ lit_at lits x) → ((x : ℕ) → x ≢ e → then x ≡ heads x)
+        → 2 ≤ length (clause_at clauses (e / 2)) → Contains (clause_at clauses (e / 2)) l
         → ((f : ℕ) → ArePartners e f → l ≢ lit_at lits f) → (Contains (literals trail) (negation l) → ⊥) → AreWatched clauses now trail checked then
-    watched_moved all now then e walked l size there at others stays was falsified lg in_clause not_other not_false = record {
+    watched_moved all now then e l size there at others stays lg in_clause not_other not_false = record {
       entries = size ∙ w.entries;
       long = λ x lt some. ⊎_elim
           (λ (same : x ≡ e). subst (λ (y : ℕ). 2 ≤ length (clause_at clauses (y / 2))) (sym same) lg)
@@ -229,20 +248,13 @@ module _ (clauses : List (List Literal)) (lits : List Literal) (trail : List Ent
           pair_at (clause_at clauses (x / 2)) (lit_at now x) (lit_at lits x) (lit_at now y) (lit_at lits y) (others x ne) (others y nf) (w.pairs x y p (omega (arith, lt, size)) long))
           (cases_eq y e))
           (cases_eq x e);
-      guarded = λ x y p lt long. ⊎_elim
+      guarded = λ x lt long. ⊎_elim
           (λ (same : x ≡ e).
-          guards_at trail (then x) (lit_at now x) l (lit_at now y) (lit_at now y) (ap (lit_at now) same ∙ at) refl
+          subst (λ (z : Literal). Guards trail (then x) z (clause_at clauses (x / 2))) (sym (ap (lit_at now) same ∙ at))
           (λ k d h is. absurd (not_false (subst (λ (z : Literal). Contains (literals trail) z) is (head_literal (then x) trail k d h)))))
-          (λ (ne : x ≢ e). ⊎_elim
-          (λ (same : y ≡ e).
-          let q : ArePartners x e = subst (λ (z : ℕ). ArePartners x z) same p in
-          let old : Guards trail (heads x) (lit_at lits x) walked = subst (λ (z : Literal). Guards trail (heads x) (lit_at lits x) z) was (w.guarded x e q lt long) in
-          subst (λ (n : ℕ). Guards trail n (lit_at now x) (lit_at now y)) (sym (stays x ne))
-          (guards_at trail (heads x) (lit_at now x) (lit_at lits x) (lit_at now y) l (others x ne) (ap (lit_at now) same ∙ at)
-          (λ k d h is. absurd (consistent walked (is_true_by trail walked (get_or (take (heads x) trail) k d).level (old k d h is)) falsified))))
-          (λ (nf : y ≢ e). subst (λ (n : ℕ). Guards trail n (lit_at now x) (lit_at now y)) (sym (stays x ne))
-          (guards_at trail (heads x) (lit_at now x) (lit_at lits x) (lit_at now y) (lit_at lits y) (others x ne) (others y nf) (w.guarded x y p lt long)))
-          (cases_eq y e))
+          (λ (ne : x ≢ e).
+          subst (λ (n : ℕ). Guards trail n (lit_at now x) (clause_at clauses (x / 2))) (sym (stays x ne))
+          (subst (λ (z : Literal). Guards trail (heads x) z (clause_at clauses (x / 2))) (sym (others x ne)) (w.guarded x lt long)))
           (cases_eq x e);
       fresh = λ x y p lt le long. absurd (omega (arith, clause_in x (omega (arith, lt, size)), le, all));
       short = w.short;
@@ -255,12 +267,13 @@ module _ (clauses : List (List Literal)) (lits : List Literal) (trail : List Ent
     first_in [] some = absurd (omega (arith, some))
     first_in (l ∷ clause) some = Contains-here l clause
 
-    guard_holds : (head : ℕ) (a b : Literal) → head ≡ length trail → Guards trail head a b → Contains (literals trail) (negation a) → Contains (literals trail) b
-    guard_holds head a b seen guards falsified =
+    guard_holds : (head : ℕ) (a : Literal) (clause : List Literal) → head ≡ length trail → Guards trail head a clause → Contains (literals trail) (negation a) → HasTrueLiteral (literals trail) clause
+    guard_holds head a clause seen guards falsified =
         let found = entry_of_literal trail (negation a) falsified in
         let whole : take head trail ≡ trail = take_all head trail (omega (arith, seen)) in
-        let all = subst (All (λ (z : Entry). z.literal ≡ negation a → IsTrueBy trail b z.level)) whole guards in
-        is_true_by trail b found.0.level (All-contains (λ (z : Entry). z.literal ≡ negation a → IsTrueBy trail b z.level) trail found.0 all found.1 found.2)
+        let all = subst (All (λ (z : Entry). z.literal ≡ negation a → HasTrueBy trail clause z.level)) whole guards in
+        let t : HasTrueBy trail clause found.0.level = All-contains (λ (z : Entry). z.literal ≡ negation a → HasTrueBy trail clause z.level) trail found.0 all found.1 found.2 in
+        (t.literal, t.in_clause, is_true_by trail t.literal found.0.level t.is_true)
 
     settled_at : checked ≡ length clauses → ((e : ℕ) → heads e ≡ length trail) → (c : ℕ) → c < length clauses → HasTrueLiteral (literals trail) (clause_at clauses c) ⊎ HasTwoNotFalse (literals trail) (clause_at clauses c)
     settled_at all seen c there = ⊎_elim
@@ -282,10 +295,12 @@ module _ (clauses : List (List Literal)) (lits : List Literal) (trail : List Ent
         let pair_b : IsPair (clause_at clauses c) b a = subst (λ (n : ℕ). IsPair (clause_at clauses n) b a) second (w.pairs f e (turned e f p) (entry_in f (omega (arith, second, there))) lg_f) in
         ⊎_elim
         (λ (fa : is_false (literals trail) a ≡ true).
-        inl (b, pair_b.in_clause, guard_holds (heads e) a b (seen e) (w.guarded e f p (omega (arith, first, there, all)) lg_e) (Contains-from_among (literals trail) (negation a) fa)))
+        inl (subst (λ (n : ℕ). HasTrueLiteral (literals trail) (clause_at clauses n)) first
+        (guard_holds (heads e) a (clause_at clauses (e / 2)) (seen e) (w.guarded e (omega (arith, first, there, all)) lg_e) (Contains-from_among (literals trail) (negation a) fa))))
         (λ (oa : is_false (literals trail) a ≡ false). ⊎_elim
         (λ (fb : is_false (literals trail) b ≡ true).
-        inl (a, pair_a.in_clause, guard_holds (heads f) b a (seen f) (w.guarded f e (turned e f p) (omega (arith, second, there, all)) lg_f) (Contains-from_among (literals trail) (negation b) fb)))
+        inl (subst (λ (n : ℕ). HasTrueLiteral (literals trail) (clause_at clauses n)) second
+        (guard_holds (heads f) b (clause_at clauses (f / 2)) (seen f) (w.guarded f (omega (arith, second, there, all)) lg_f) (Contains-from_among (literals trail) (negation b) fb))))
         (λ (ob : is_false (literals trail) b ≡ false).
         inr (record {
           one = a;
@@ -348,14 +363,14 @@ module _ (clauses : List (List Literal)) (lits : List Literal) (trail : List Ent
         entries = w.entries;
         long = w.long;
         pairs = w.pairs;
-        guarded = λ e f q lt lg.
+        guarded = λ e lt lg.
             let a = lit_at lits e in
-            let b = lit_at lits f in
-            subst (All (λ (z : Entry). z.literal ≡ negation a → IsTrueBy new b z.level)) (sym (whole e))
+            let clause = clause_at clauses (e / 2) in
+            subst (All (λ (z : Entry). z.literal ≡ negation a → HasTrueBy new clause z.level)) (sym (whole e))
             (λ k d h is.
             let at = taken e k d h in
-            let old = subst (λ (z : Entry). z.literal ≡ negation a → IsTrueBy trail b z.level) at.1 (w.guarded e f q lt lg k d at.0) in
-            keeps b (get_or new k d).level (low (get_or new k d) (entry_at_place new k d h)) (old is));
+            let old = subst (λ (z : Entry). z.literal ≡ negation a → HasTrueBy trail clause z.level) at.1 (w.guarded e lt lg k d at.0) in
+            true_more trail new clause (get_or new k d).level (λ l. keeps l (get_or new k d).level (low (get_or new k d) (entry_at_place new k d h))) (old is));
         fresh = λ e f q lt le lg.
             let a = lit_at lits e in
             let b = lit_at lits f in

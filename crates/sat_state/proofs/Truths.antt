@@ -6,7 +6,7 @@ use Rattle.std.proofs.lemmas.List.{get_or-set_same, get_or-set_other}
 use Rattle.cnf_core.specs.Literal.{Literal, code_of, is_among, same_literal}
 use Rattle.sat_state.specs.WatchesInside.{literal_at}
 use Rattle.sat_state.specs.ValuesInside.{AreTruths}
-use Rattle.sat_state.proofs.Linked.{literal_again}
+use Rattle.sat_state.proofs.Codes.{literal_again}
 use Rattle.sat_state.proofs.Literals.{is_among_push, same_literal_is, same_literal_itself}
 
 same_code : (a b : Literal) → code_of a ≡ code_of b → a ≡ b

@@ -16,9 +16,15 @@ pub record IsTrueBy (trail : List Entry) (l : Literal) (level : ℕ) : Type 0 wh
   pub names : entry.literal ≡ l
   pub low : entry.level ≤ level
 
--- where a literal is false by one of the first entries, another is true by one of no higher level
-abbrev pub Guards : List Entry → ℕ → Literal → Literal → Type 0
-Guards trail head l other = All (λ e. e.literal ≡ negation l → IsTrueBy trail other e.level) (take head trail)
+-- a literal of the clause is true by an entry of at most this level
+pub record HasTrueBy (trail : List Entry) (clause : List Literal) (level : ℕ) : Type 0 where
+  pub literal : Literal
+  pub in_clause : Contains clause literal
+  pub is_true : IsTrueBy trail literal level
+
+-- where a literal is false by one of the first entries, one of the clause is true by an entry of no higher level
+abbrev pub Guards : List Entry → ℕ → Literal → List Literal → Type 0
+Guards trail head l clause = All (λ e. e.literal ≡ negation l → HasTrueBy trail clause e.level) (take head trail)
 
 -- all literals of a clause but one are false
 abbrev pub AreOthersFalse : List Literal → List Literal → Literal → Type 0
@@ -39,14 +45,14 @@ pub record IsPair (clause : List Literal) (l other : Literal) : Type 0 where
   pub in_clause : Contains clause l
   pub two : l ≢ other
 
--- Each clause of two or more literals watches two of them; a literal of a clause that was looked at is guarded by the other, and
+-- Each clause of two or more literals watches two of them; a watched literal of a clause that was looked at is guarded by the clause, and
 -- one of another clause is fresh, as far as the lists of its entry were walked. A shorter clause that was looked at is true without
 -- decisions.
 pub record AreWatched (clauses : List (List Literal)) (lits : List Literal) (trail : List Entry) (checked : ℕ) (heads : ℕ → ℕ) : Type 0 where
   pub entries : length lits ≡ 2 * length clauses
   pub long : (e : ℕ) → e < length lits → 1 ≤ (lit_at lits e).var → 2 ≤ length (clause_at clauses (e / 2))
   pub pairs : (e f : ℕ) → ArePartners e f → e < length lits → 2 ≤ length (clause_at clauses (e / 2)) → IsPair (clause_at clauses (e / 2)) (lit_at lits e) (lit_at lits f)
-  pub guarded : (e f : ℕ) → ArePartners e f → e / 2 < checked → 2 ≤ length (clause_at clauses (e / 2)) → Guards trail (heads e) (lit_at lits e) (lit_at lits f)
+  pub guarded : (e : ℕ) → e / 2 < checked → 2 ≤ length (clause_at clauses (e / 2)) → Guards trail (heads e) (lit_at lits e) (clause_at clauses (e / 2))
   pub fresh : (e f : ℕ) → ArePartners e f → e < length lits → checked ≤ e / 2 → 2 ≤ length (clause_at clauses (e / 2)) → IsFresh trail (heads e) (clause_at clauses (e / 2)) (lit_at lits e) (lit_at lits f)
   pub short : (c : ℕ) → c < checked → length (clause_at clauses c) < 2 → (0 < length (clause_at clauses c)) × All (λ l. IsTrueBy trail l 0) (clause_at clauses c)
   pub unchecked : (c : ℕ) → c < length clauses → checked ≤ c → length (clause_at clauses c) < 2 → level_of trail ≡ 0

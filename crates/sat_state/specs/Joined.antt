@@ -1,10 +1,13 @@
 -- The clauses with their watched literals, and the trail, together.
-use Rattle.std.specs.Prelude.{Bool, if◌then◌else◌, ◌≡◌, ◌≢◌, ℕ, ◌+◌, ◌*◌, ◌<◌, ◌≤◌, List, length, take, drop, slice_index_or, None, All, Contains, ◌⊎◌}
+use Rattle.std.specs.Prelude.{Bool, if◌then◌else◌, ◌≡◌, ◌≢◌, ℕ, ◌+◌, ◌*◌, ◌/◌, ◌<◌, ◌≤◌, ◌==◌, List, length, take, drop, count_by, slice_index_or, None, All, Contains, ◌⊎◌}
+use Rattle.std.specs.List.{list_any}
 use Rattle.cnf_core.specs.Literal.{Literal, negation, code_of, IsClause, VariablesUpTo}
 use Rattle.sat_state.specs.Trail.{Entry, literals, level_of, IsGrounded}
-use Rattle.sat_state.specs.Watching.{no_lit, lit_at}
-use Rattle.sat_state.specs.Tiered.{far_at}
-use Rattle.sat_state.specs.Guards.{AreWatched, ArePartners}
+use Rattle.cnf_core.specs.Steps.{HasTrueLiteral}
+use Rattle.sat_state.specs.Stored.{clause_at}
+use Rattle.sat_state.specs.Watching.{no_lit, lit_at, far_at, listed_at, IsInSomeList}
+use Rattle.sat_state.specs.declared.list.Watch.{Watch}
+use Rattle.sat_state.specs.Guards.{AreWatched}
 use Rattle.sat_state.specs.declared.parts.Queue.{Queue}
 use Rattle.sat_state.specs.declared.parts.Parts.{Parts}
 
@@ -16,8 +19,22 @@ place_in_queue queue far = if far then queue.far else queue.head
 abbrev pub heads_of : Queue → List Bool → ℕ → ℕ
 heads_of queue fars e = place_in_queue queue (far_at fars e)
 
+-- whether a literal of the clause has this code
+abbrev pub has_code : List Literal → ℕ → Bool
+has_code clause code = list_any (λ l. code_of l == code) clause
+
+-- how many clauses have the literal of a code
+abbrev pub uses : List (List Literal) → ℕ → ℕ
+uses clauses code = count_by (λ clause. has_code clause code) clauses
+
+-- an entry with some literal of its clause
+pub record IsOfClause (clauses : List (List Literal)) (lits : List Literal) (watch : Watch) : Type 0 where
+  pub there : watch.entry < length lits
+  pub in_clause : Contains (clause_at clauses (watch.entry / 2)) watch.blocker
+
 -- Each entry stands on those before it, what is left of the trail to look at is of its level, and the clauses are watched. The
--- variables are known.
+-- variables are known. What stands in a list has some literal of its clause beside it, and there is room in the list of a literal for all
+-- clauses that have it.
 pub record AreJoined (p : Parts) : Type 0 where
   pub grounded : IsGrounded p.clauses.lists p.assigned.trail
   pub watched : AreWatched p.clauses.lists p.watches.lits p.assigned.trail p.queue.checked (heads_of p.queue p.watches.fars)
@@ -26,6 +43,8 @@ pub record AreJoined (p : Parts) : Type 0 where
   pub present : (far : Bool) → All (λ e. e.level ≡ level_of p.assigned.trail) (drop (place_in_queue p.queue far) p.assigned.trail)
   pub fars : length p.watches.fars ≡ length p.watches.lits
   pub lists : 2 * p.assigned.vars + 2 ≤ p.watches.lists
+  pub blockers : (w : Watch) → IsInSomeList p.watches.stands w → IsOfClause p.clauses.lists p.watches.lits w
+  pub rooms : (code : ℕ) → uses p.clauses.lists code ≤ (listed_at p.watches.stands code).room
   pub in_range : All (VariablesUpTo p.assigned.vars) p.clauses.lists
   pub clauses : All IsClause p.clauses.lists
 
@@ -51,14 +70,13 @@ pub record IsInWalk (p : Parts) (e : ℕ) : Type 0 where
   pub literal : lit_at p.watches.lits e ≡ p.watches.walked
   pub tier : far_at p.watches.fars e ≡ p.watches.walks_far
 
--- the list of the literal is walked that the next entry of the trail makes false: each clause that was looked at has its other literal true
+-- the list of the literal is walked that the next entry of the trail makes false: each clause that was looked at has a true literal
 pub record IsWalking (p : Parts) : Type 0 where
   pub checked : p.queue.checked ≡ length p.clauses.lists
   pub more : place_in_queue p.queue p.watches.walks_far < length p.assigned.trail
   pub some : 1 ≤ p.watches.walked.var
   pub walked : (slice_index_or p.assigned.trail (place_in_queue p.queue p.watches.walks_far) some_entry).literal ≡ negation p.watches.walked
-  pub partners : (e f : ℕ) → ArePartners e f → IsInWalk p e
-      → Contains p.watches.waiting e ⊎ Contains (literals p.assigned.trail) (lit_at p.watches.lits f)
+  pub satisfied : (e : ℕ) → IsInWalk p e → Contains p.watches.waiting e ⊎ HasTrueLiteral (literals p.assigned.trail) (clause_at p.clauses.lists (e / 2))
 
 -- the literal isn't false by an entry of a level below the trail's
 abbrev pub IsNotLow : List Entry → Literal → Type 0

@@ -3,10 +3,9 @@ pub mod View
 pub mod Assigned
 pub mod SlotInside
 pub mod AssignmentInside
-pub mod Chains
+pub mod Listed
+pub mod ListInside
 pub mod Watching
-pub mod Tiered
-pub mod TieredInside
 pub mod WatchesInside
 pub mod ValuesInside
 pub mod Stored

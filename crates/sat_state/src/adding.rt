@@ -5,10 +5,12 @@ ghost use Rattle.cnf_core.specs.Literal.{VariablesUpTo, IsClause, code_of};
 ghost use Rattle.sat_state.specs.Trail.{literals, level_of, IsOpenBelow};
 ghost use Rattle.sat_state.specs.View.{BringsIn};
 ghost use Rattle.sat_state.specs.Guards.{is_false};
-ghost use Rattle.sat_state.specs.Joined.{AreJoined, IsNotLow, HasHigh};
+ghost use Rattle.sat_state.specs.Watching.{listed_at};
+ghost use Rattle.sat_state.specs.Joined.{AreJoined, IsNotLow, HasHigh, uses};
 
 use crate::clauses::first_open;
 use crate::parts::Parts;
+use crate::short::ShortLit;
 use crate::watches::code;
 use cnf_core::{Clause, Lit};
 use ep_base::Memory;
@@ -73,6 +75,7 @@ impl Parts {
         requires clauses_spare { length clause ≤ self.old.clauses.spare }
         requires short { All (λ l. code_of l < 2 ^ 32) clause }
         requires watches_room { 2 ≤ self.old.watches.room }
+        requires list_room { (code : ℕ) → uses (self.old.clauses.lists ++ clause ∷ []) code ≤ (listed_at self.old.watches.stands code).room }
         requires fits { length self.old.watches.lits + 3 < 2 ^ 32 }
         ensures joined { AreJoined self.new }
         ensures clauses { self.new.clauses.lists ≡ self.old.clauses.lists ++ clause ∷ [] }
@@ -89,9 +92,47 @@ impl Parts {
         let other = self.choose(lits, code(one));
         let entry = 2 * self.clauses.len();
         self.watches.push();
-        self.watches.link(entry, one, false);
-        self.watches.link(entry + 1, other, false);
+        self.watches.link(entry, one, ShortLit::of(other), false);
+        self.watches
+            .link(entry + 1, other, ShortLit::of(one), false);
         self.clauses.push(clause);
+    }
+
+    // Makes the lists of the variables up to this number.
+    fn make_lists(&mut self, vars: u64) -> Result<(), Memory>
+        requires { AreJoined self.old }
+        ensures joined { AreJoined self.new }
+        ensures clauses { self.new.clauses ≡ self.old.clauses }
+        ensures assigned { self.new.assigned ≡ self.old.assigned }
+        ensures queue { self.new.queue ≡ self.old.queue }
+        ensures room { self.new.watches.room ≡ self.old.watches.room }
+        ensures lits { self.new.watches.lits ≡ self.old.watches.lits }
+        ensures lists { OnOk result (2 * vars + 2 ≤ self.new.watches.lists) }
+    {
+        if vars >= u64::from(u32::MAX / 2) {
+            return Err(Memory);
+        }
+        self.watches.grow(2 * vars as usize + 2)?;
+        Ok(())
+    }
+
+    // Makes room for a clause of these literals in the lists of all of them.
+    fn make_room(&mut self, lits: &[Lit]) -> Result<(), Memory>
+        requires joined { AreJoined self.old }
+        requires known { All (λ l. code_of l < self.old.watches.lists) lits.now }
+        ensures joined { AreJoined self.new }
+        ensures clauses { self.new.clauses ≡ self.old.clauses }
+        ensures assigned { self.new.assigned ≡ self.old.assigned }
+        ensures queue { self.new.queue ≡ self.old.queue }
+        ensures room { self.new.watches.room ≡ self.old.watches.room }
+        ensures lits { self.new.watches.lits ≡ self.old.watches.lits }
+        ensures lists { self.new.watches.lists ≡ self.old.watches.lists }
+        ensures more { OnOk result ((code : ℕ) → uses (self.old.clauses.lists ++ lits.now ∷ []) code ≤ (listed_at self.new.watches.stands code).room) }
+    {
+        for lit in lits {
+            self.watches.make_room(*lit)?;
+        }
+        Ok(())
     }
 
     /// Makes the variables up to this number known.
@@ -99,18 +140,12 @@ impl Parts {
         requires { AreJoined self.old }
         ensures joined { AreJoined self.new }
         ensures clauses { self.new.clauses ≡ self.old.clauses }
-        ensures room { self.new.watches.room ≡ self.old.watches.room }
-        ensures lits { self.new.watches.lits ≡ self.old.watches.lits }
-        ensures fars { self.new.watches.fars ≡ self.old.watches.fars }
         ensures trail { self.new.assigned.trail ≡ self.old.assigned.trail }
         ensures queue { self.new.queue ≡ self.old.queue }
         ensures vars { OnOk result (self.new.assigned.vars ≡ max self.old.assigned.vars vars) }
         ensures err { OnErr result (self.new.assigned.vars ≡ self.old.assigned.vars) }
     {
-        if vars >= u64::from(u32::MAX / 2) {
-            return Err(Memory);
-        }
-        self.watches.grow(2 * vars as usize + 2)?;
+        self.make_lists(vars)?;
         self.assigned.grow(vars)
     }
 
@@ -128,7 +163,10 @@ impl Parts {
     {
         self.clauses.reserve(&clause)?;
         self.watches.reserve()?;
-        self.grow(clause.greatest_variable())?;
+        let vars = clause.greatest_variable();
+        self.make_lists(vars)?;
+        self.make_room(clause.lits())?;
+        self.assigned.grow(vars)?;
         self.append(clause);
         Ok(())
     }

@@ -4,12 +4,12 @@
 mod adding;
 mod assignment;
 mod clauses;
+mod list;
 mod parts;
 mod rows;
 mod short;
 mod slot;
 mod state;
-mod tiers;
 mod values;
 mod watches;
 

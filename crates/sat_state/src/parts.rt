@@ -1,18 +1,19 @@
 //! The parts of a state, and propagation over them.
 
 ghost use Rattle.std.specs.Prelude.{◌≡◌, ℕ, ◌+◌, ◌*◌, ◌^◌, ◌<◌, ◌≤◌, ◌⊎◌, [], ◌∷◌, ◌++◌, length, take, max, None, Some, false, IsTrue, Contains, IsNone, IfSome, IfOk, OnOk, OnErr, filter, nat_le, ◌/◌, ◌≢◌, if◌then◌else◌};
-ghost use Rattle.cnf_core.specs.Literal.{VariablesUpTo};
+ghost use Rattle.cnf_core.specs.Literal.{VariablesUpTo, negation};
 ghost use Rattle.cnf_core.specs.Steps.{IsAtEnd, HasTrueLiteral, HasTwoNotFalse};
 ghost use Rattle.sat_state.specs.Trail.{literals, trail_value, next_level, level_of, HasReason, IsFalsified, NamesFalsified, Gives, IsOpenBelow};
 ghost use Rattle.sat_state.specs.Stored.{clause_at};
-ghost use Rattle.sat_state.specs.Tiered.{IsNext};
+ghost use Rattle.sat_state.specs.Watching.{IsNext};
 ghost use Rattle.sat_state.specs.View.{AreTwoOf, IsGuarded};
-ghost use Rattle.sat_state.specs.Guards.{ArePartners};
+ghost use Rattle.sat_state.specs.Guards.{ArePartners, IsTrueBy, Guards};
 ghost use Rattle.sat_state.specs.Joined.{AreJoined, GoesOn, IsAllSeen, IsWalking, place_in_queue};
 
 use crate::clauses::{Clauses, first_open};
-use crate::tiers::Tiers;
+use crate::short::ShortLit;
 use crate::values::Values;
+use crate::watches::Watches;
 use cnf_core::Lit;
 use ep_base::Memory;
 use std::alloc::Global;
@@ -39,7 +40,7 @@ impl Queue {
 #[derive(Debug, Drop)]
 pub struct Parts {
     pub clauses: Clauses,
-    pub watches: Tiers,
+    pub watches: Watches,
     pub assigned: Values,
     pub queue: Queue,
 }
@@ -59,7 +60,7 @@ impl Parts {
         ensures vars { IfOk result (λ parts. parts.assigned.vars ≡ 0) }
         ensures trail { IfOk result (λ parts. parts.assigned.trail ≡ []) }
     {
-        let mut watches = Tiers::new(alloc);
+        let mut watches = Watches::new(alloc);
         watches.grow(2)?;
         Ok(Parts {
             clauses: Clauses::new(alloc),
@@ -147,11 +148,11 @@ impl Parts {
         None
     }
 
-    // Looks at the clause of the next entry of the list that is walked. Answers whether it isn't falsified.
-    fn visit(&mut self, entry: usize) -> bool
+    // Looks at the clause of the next one of the list that is walked. Answers whether it isn't falsified.
+    fn visit(&mut self, entry: usize, blocker: ShortLit) -> bool
         requires joined { AreJoined self.old }
         requires walking { IsWalking self.old }
-        requires next { IsNext self.old.watches entry }
+        requires next { IsNext self.old.watches (record { entry = entry; blocker = blocker }) }
         ensures goes { GoesOn self.old self.new }
         ensures walking { IsTrue result → IsWalking self.new }
         ensures shorter { IsTrue result → length self.new.watches.waiting + 1 ≡ length self.old.watches.waiting }
@@ -159,22 +160,27 @@ impl Parts {
         ensures tier { self.new.watches.walks_far ≡ self.old.watches.walks_far }
         ensures falsified { result ≡ false → NamesFalsified self.new.clauses.lists self.new.assigned.trail (entry / 2) }
     {
-        let other = self.watches.lit(partner(entry));
-        if self.assigned.is_true(other) {
+        if self.assigned.is_short_true(blocker) {
             self.watches.keep();
             return true;
         }
-        let number = entry / 2;
-        if let Some(lit) = self.clauses.other_open(&self.assigned, number, other) {
-            self.watches.take();
-            let far = self.clauses.is_far(number);
-            self.watches.link(entry, lit, far);
+        let other = self.watches.lit(partner(entry));
+        if self.assigned.is_short_true(other) {
+            self.watches.keep_with(other);
             return true;
         }
-        if self.assigned.is_true(other.negated()) {
+        let number = entry / 2;
+        let found = other.lit();
+        if let Some(lit) = self.clauses.other_open(&self.assigned, number, found) {
+            self.watches.take();
+            let far = self.clauses.is_far(number);
+            self.watches.link(entry, lit, other, far);
+            return true;
+        }
+        if self.assigned.is_short_true(other.negated()) {
             return false;
         }
-        self.force(other, number);
+        self.force(found, number);
         self.watches.keep();
         true
     }
@@ -192,8 +198,8 @@ impl Parts {
     {
         let lit = self.assigned.trail()[self.queue.place(far)].lit().negated();
         self.watches.start(lit, far);
-        'walk: while let Some(entry) = self.watches.current() {
-            if !self.visit(entry) {
+        'walk: while let Some((entry, blocker)) = self.watches.current() {
+            if !self.visit(entry, blocker) {
                 return Some(entry / 2);
             }
         }
@@ -271,7 +277,7 @@ impl Parts {
         self.propagate();
     }
 
-    /// The two literals that a clause watches, or none where it has fewer than two.
+    /// Two literals of a clause, or none where it has fewer than two: those that it watches, or a false one of these and one that guards it.
     pub fn watched(&self, number: usize) -> Option<(Lit, Lit)>
         requires joined { AreJoined self.now }
         requires there { number < length self.now.clauses.lists }
@@ -285,7 +291,50 @@ impl Parts {
         if lits.len() < 2 {
             return None;
         }
-        Some(self.watches.of_clause(number))
+        let pair = self.watches.of_clause(number);
+        if let Some(first) = self.guard(number, pair.0) {
+            return Some((pair.0, first));
+        }
+        if let Some(second) = self.guard(number, pair.1) {
+            return Some((second, pair.1));
+        }
+        Some(pair)
+    }
+
+    // Where a literal of a clause is false, another one of the clause that was true at no higher level, if there is one.
+    fn guard(&self, number: usize, lit: Lit) -> Option<Lit>
+        requires joined { AreJoined self.now }
+        requires there { number < length self.now.clauses.lists }
+        ensures in_clause { IfSome result (λ l. Contains (clause_at self.now.clauses.lists number) l) }
+        ensures falsified { IfSome result (λ l. Contains (literals self.now.assigned.trail) (negation lit)) }
+        ensures is_true { IfSome result (λ l. Contains (literals self.now.assigned.trail) l) }
+        ensures guards { IfSome result (λ l. IsGuarded self.now.assigned.trail lit l) }
+        ensures none { IsNone result → Guards self.now.assigned.trail (length self.now.assigned.trail) lit (clause_at self.now.clauses.lists number)
+            → Contains (literals self.now.assigned.trail) (negation lit) → ⊥ }
+    {
+        if !self.assigned.is_true(lit.negated()) {
+            return None;
+        }
+        let level = self.assigned.level_of(lit.var());
+        let lits = self.clauses.lits(number);
+        for found in lits {
+            if self.is_true_by(*found, level) {
+                return Some(found.lit());
+            }
+        }
+        None
+    }
+
+    // Whether a literal became true at no higher level than this one.
+    fn is_true_by(&self, lit: ShortLit, level: u64) -> bool
+        requires { AreJoined self.now }
+        ensures is_true { IsTrue result → IsTrueBy self.now.assigned.trail lit level }
+        ensures is_not { result ≡ false → IsTrueBy self.now.assigned.trail lit level → ⊥ }
+    {
+        if !self.assigned.is_short_true(lit) {
+            return false;
+        }
+        self.assigned.level_of(lit.var()) <= level
     }
 
     /// Makes a literal true without a reason, which opens a level.

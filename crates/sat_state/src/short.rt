@@ -1,6 +1,6 @@
 //! Literals in four bytes, of which the tables of a state are made.
 
-ghost use Rattle.std.specs.Prelude.{◌≡◌, ℕ, ◌^◌, ◌<◌, ◌≤◌};
+ghost use Rattle.std.specs.Prelude.{◌≡◌, ℕ, ◌/◌, ◌%◌, ◌==◌, ◌^◌, ◌<◌, ◌≤◌};
 ghost use Rattle.cnf_core.specs.Literal.{IsVariable, code_of, negation};
 
 use cnf_core::Lit;
@@ -38,6 +38,14 @@ impl ShortLit {
         ShortLit {
             code: (2 * lit.var() + if lit.positive() { 0 } else { 1 }) as u32,
         }
+    }
+
+    /// The literal of a code.
+    pub fn of_code(code: u32) -> ShortLit
+        requires { IsVariable (code / 2) }
+        ensures { result ≡ record { var = code / 2; positive = code % 2 == 0 } }
+    {
+        ShortLit { code }
     }
 
     /// The same literal as others take it.

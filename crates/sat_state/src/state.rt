@@ -195,8 +195,9 @@ impl State {
         self.parts.clauses.lits(number as usize)
     }
 
-    /// The two literals that propagation watches in a clause, or none where it has fewer than two. Where propagation is known to be
-    /// at its end and one of them is false, the other is true and was so at no higher level.
+    /// Two literals of a clause, or none where it has fewer than two: those that propagation watches, or a false one of these and one that
+    /// keeps the clause from being looked at. Where propagation is known to be at its end and one of the two is false, the other is
+    /// true and was so at no higher level. Reads the clause.
     pub fn watched(&self, number: u64) -> Option<(Lit, Lit)>
         requires { number < length self.now.clauses }
         ensures none { IsNone result ↔ (length (slice_index_or self.now.clauses number []) < 2) }

@@ -1,13 +1,13 @@
-use Rattle.std.proofs.Common.{◌≡◌, ◌≢◌, ◌+◌, ◌*◌, ◌≤◌, ◌<◌, ◌⊎◌, ◌∷◌, [], ◌++◌, ℕ, Bool, List, true, false, length, length-append, set, All, Contains, refl, sym, ap, ◌∙◌, subst, arith}
+use Rattle.std.proofs.Common.{◌≡◌, ◌≢◌, ◌+◌, ◌*◌, ◌≤◌, ◌<◌, ◌⊎◌, ◌∷◌, [], ◌++◌, ℕ, Bool, List, true, false, length, length-append, set, All, Contains, refl, sym, ap, ◌∙◌, subst, inl, inr, ⊎_elim, arith}
 use Rattle.std.proofs.lemmas.List.{length-set}
 use Rattle.cnf_core.specs.Literal.{Literal, code_of, IsClause}
 use Rattle.sat_state.specs.Trail.{literals, level_of, IsOpenBelow}
-use Rattle.sat_state.specs.Watching.{no_lit, lit_at}
-use Rattle.sat_state.specs.Tiered.{far_at}
+use Rattle.sat_state.specs.Watching.{no_lit, lit_at, far_at, listed_at, IsInSomeList, links}
 use Rattle.sat_state.specs.Guards.{is_false}
+use Rattle.sat_state.specs.Listed.{Listed}
 use Rattle.sat_state.specs.Joined.{heads_of}
-use Rattle.sat_state.proofs.Going.{joined_low, code_some}
-use Rattle.sat_state.proofs.Added.{some_high, short_bottom, ArePicked, picked, IsNew, new_short, new_long, same_before, same_before_two, tier_before, tier_before_two, joined_added}
+use Rattle.sat_state.proofs.Going.{joined_low, code_some, code_two}
+use Rattle.sat_state.proofs.Added.{some_high, short_bottom, ArePicked, picked, IsNew, new_short, new_long, same_before, same_before_two, tier_before, tier_before_two, joined_added, added_first, added_second, both_of}
 use Rattle.sat_state.proofs.parts.Parts.append.Goals as goal
 
 pub choose-one-requires-clause-some : goal.choose-one-requires-clause-some
@@ -40,7 +40,9 @@ returns-then-lits-lt2-clause-joined c =
     (omega (arith, ap length c.push.ensures.fars, length-append fars (false ∷ false ∷ [])))
     (λ x lt. ap (λ (fs : List Bool). far_at fs x) c.push.ensures.fars ∙ tier_before fars x lt)
     (subst (λ (ls : List Literal). IsNew old.assigned.trail heads (length old.clauses.lists) clause ls) (sym c.push.ensures.lits) fresh)
-    c.push-then-lits-lt2.ensures c.push.ensures.lists refl refl
+    c.push-then-lits-lt2.ensures (omega (arith, c.push.ensures.lists))
+    (λ x s. inl (subst (λ (ls : List Listed). IsInSomeList ls x) c.push.ensures.stands s))
+    (λ k. omega (arith, c.requires.list_room k, ap (λ (ls : List Listed). (listed_at ls k).room) c.push.ensures.stands)) refl refl
 
 pub returns-clause-joined : goal.returns-clause-joined
 returns-clause-joined c =
@@ -67,16 +69,72 @@ returns-clause-joined c =
     c.choose-one.ensures.high c.choose-one.ensures.others c.choose-other.ensures.high others_b in
     let fresh : IsNew trail heads n clause (set (set (lits ++ no_lit ∷ no_lit ∷ []) (2 * n) a) (2 * n + 1) b)
     = new_long trail heads n clause lits a b entries long (subst (λ (ls : List Literal). ArePicked trail ls a b) value pick) in
-    let is : c.link-2.new.self.lits ≡ set (set (lits ++ no_lit ∷ no_lit ∷ []) (2 * n) a) (2 * n + 1) b
+    let is_lits : c.link-2.new.self.lits ≡ set (set (lits ++ no_lit ∷ no_lit ∷ []) (2 * n) a) (2 * n + 1) b
     = c.link-2.ensures.lits ∙ ap (λ (ls : List Literal). set ls (2 * c.len-entry.result + 1) b) (c.link.ensures.lits ∙ ap (λ (ls : List Literal). set ls (2 * c.len-entry.result) a) c.push-2.ensures.lits)
     ∙ ap (λ (k : ℕ). set (set (lits ++ no_lit ∷ no_lit ∷ []) (2 * k) a) (2 * k + 1) b) c.len-entry.ensures in
+    let long_lits : length (set (set (lits ++ no_lit ∷ no_lit ∷ []) (2 * n) a) (2 * n + 1) b) ≡ length lits + 2
+    = omega (arith, length-set (set (lits ++ no_lit ∷ no_lit ∷ []) (2 * n) a) (2 * n + 1) b, length-set (lits ++ no_lit ∷ no_lit ∷ []) (2 * n) a, length-append lits (no_lit ∷ no_lit ∷ [])) in
     let tiers : c.link-2.new.self.fars ≡ set (set (fars ++ false ∷ false ∷ []) (2 * n) false) (2 * n + 1) false
     = c.link-2.ensures.fars ∙ ap (λ (fs : List Bool). set fs (2 * c.len-entry.result + 1) false) (c.link.ensures.fars ∙ ap (λ (fs : List Bool). set fs (2 * c.len-entry.result) false) c.push-2.ensures.fars)
     ∙ ap (λ (k : ℕ). set (set (fars ++ false ∷ false ∷ []) (2 * k) false) (2 * k + 1) false) c.len-entry.ensures in
     joined_added old _ clause c.requires.joined c.requires.level c.requires.known is_clause
-    (omega (arith, ap length is, length-set (set (lits ++ no_lit ∷ no_lit ∷ []) (2 * n) a) (2 * n + 1) b, length-set (lits ++ no_lit ∷ no_lit ∷ []) (2 * n) a, length-append lits (no_lit ∷ no_lit ∷ [])))
-    (λ x lt. ap (λ (ls : List Literal). lit_at ls x) is ∙ same_before_two lits n a b entries x lt)
+    (omega (arith, ap length is_lits, length-set (set (lits ++ no_lit ∷ no_lit ∷ []) (2 * n) a) (2 * n + 1) b, length-set (lits ++ no_lit ∷ no_lit ∷ []) (2 * n) a, length-append lits (no_lit ∷ no_lit ∷ [])))
+    (λ x lt. ap (λ (ls : List Literal). lit_at ls x) is_lits ∙ same_before_two lits n a b entries x lt)
     (omega (arith, ap length tiers, length-set (set (fars ++ false ∷ false ∷ []) (2 * n) false) (2 * n + 1) false, length-set (fars ++ false ∷ false ∷ []) (2 * n) false, length-append fars (false ∷ false ∷ [])))
     (λ x lt. ap (λ (fs : List Bool). far_at fs x) tiers ∙ tier_before_two fars n false false (c.requires.joined.fars ∙ entries) x lt)
-    (subst (λ (ls : List Literal). IsNew trail heads n clause ls) (sym is) fresh)
-    c.push-3.ensures (c.link-2.ensures.lists ∙ c.link.ensures.lists ∙ c.push-2.ensures.lists) refl refl
+    (subst (λ (ls : List Literal). IsNew trail heads n clause ls) (sym is_lits) fresh)
+    c.push-3.ensures (omega (arith, c.link-2.ensures.lists, c.link.ensures.lists, c.push-2.ensures.lists))
+    (λ x s. ⊎_elim
+    (λ (was : IsInSomeList c.link.new.self.stands x). ⊎_elim
+    (λ (stood : IsInSomeList c.push-2.new.self.stands x). inl (subst (λ (ls : List Listed). IsInSomeList ls x) c.push-2.ensures.stands stood))
+    (λ (is : x ≡ record { entry = 2 * c.len-entry.result; blocker = c.of.result }).
+    inr (both_of old.clauses.lists clause c.link-2.new.self.lits x (2 * c.len-entry.result) c.of.result is (omega (arith, c.len-entry.ensures)) (omega (arith, c.len-entry.ensures, ap length is_lits, long_lits, entries))
+    (subst (λ (l : Literal). Contains clause l) (sym c.of.ensures) (subst (λ (ls : List Literal). Contains ls b) value c.choose-other.ensures.in_clause))))
+    (c.link.ensures.stands x was))
+    (λ (is : x ≡ record { entry = 2 * c.len-entry.result + 1; blocker = c.of-2.result }).
+    inr (both_of old.clauses.lists clause c.link-2.new.self.lits x (2 * c.len-entry.result + 1) c.of-2.result is (omega (arith, c.len-entry.ensures)) (omega (arith, c.len-entry.ensures, ap length is_lits, long_lits, entries))
+    (subst (λ (l : Literal). Contains clause l) (sym c.of-2.ensures) (subst (λ (ls : List Literal). Contains ls a) value c.choose-one.ensures.in_clause))))
+    (c.link-2.ensures.stands x s))
+    (λ k. omega (arith, c.requires.list_room k, c.link-2.ensures.kept k, c.link.ensures.kept k, ap (λ (ls : List Listed). (listed_at ls k).room) c.push-2.ensures.stands)) refl refl
+
+pub link-requires-clause-room : goal.link-requires-clause-room
+link-requires-clause-room c =
+    let old = c.args.self.now in
+    let trues = literals old.assigned.trail in
+    let a = c.choose-one.result in
+    let b = c.choose-other.result in
+    let found = c.lits-lits.result.now in
+    let value = c.lits-lits.ensures.value in
+    let long : 2 ≤ length c.args.clause = omega (arith, c.if-lits-lt2.false, ap length value) in
+    let others_b : is_false trues b ≡ true → All (λ l. code_of l ≢ code_of a → is_false trues l ≡ true) found
+    = λ f. subst (λ (k : ℕ). All (λ l. code_of l ≢ k → is_false trues l ≡ true) found) c.code.ensures.value (c.choose-other.ensures.others f) in
+    let pick : ArePicked old.assigned.trail found a b
+    = picked old.assigned.trail found a b (joined_low old c.requires.joined) c.choose-one.ensures.in_clause c.choose-other.ensures.in_clause (λ same. c.choose-other.ensures.other (same ∙ sym c.code.ensures.value))
+    (λ k d h. code_some (Rattle.std.proofs.Common.get_or found k d) (c.lits-lits.ensures.variables k d h).0)
+    c.choose-one.ensures.high c.choose-one.ensures.others c.choose-other.ensures.high others_b in
+    let first = added_first old c.args.clause a b c.requires.joined long (subst (λ (ls : List Literal). ArePicked old.assigned.trail ls a b) value pick) (subst (λ (k : ℕ). 2 ≤ k) c.code.ensures.value c.code.ensures.some) in
+    omega (arith, first, ap (λ (ls : List Literal). links ls (code_of a)) c.push-2.ensures.lits, c.requires.list_room (code_of a), ap (λ (ls : List Listed). (listed_at ls (code_of a)).room) c.push-2.ensures.stands)
+
+pub link-requires-2-clause-room : goal.link-requires-2-clause-room
+link-requires-2-clause-room c =
+    let old = c.args.self.now in
+    let trues = literals old.assigned.trail in
+    let n = length old.clauses.lists in
+    let a = c.choose-one.result in
+    let b = c.choose-other.result in
+    let found = c.lits-lits.result.now in
+    let value = c.lits-lits.ensures.value in
+    let long : 2 ≤ length c.args.clause = omega (arith, c.if-lits-lt2.false, ap length value) in
+    let others_b : is_false trues b ≡ true → All (λ l. code_of l ≢ code_of a → is_false trues l ≡ true) found
+    = λ f. subst (λ (k : ℕ). All (λ l. code_of l ≢ k → is_false trues l ≡ true) found) c.code.ensures.value (c.choose-other.ensures.others f) in
+    let pick : ArePicked old.assigned.trail found a b
+    = picked old.assigned.trail found a b (joined_low old c.requires.joined) c.choose-one.ensures.in_clause c.choose-other.ensures.in_clause (λ same. c.choose-other.ensures.other (same ∙ sym c.code.ensures.value))
+    (λ k d h. code_some (Rattle.std.proofs.Common.get_or found k d) (c.lits-lits.ensures.variables k d h).0)
+    c.choose-one.ensures.high c.choose-one.ensures.others c.choose-other.ensures.high others_b in
+    let variables = subst (λ (ls : List Literal). All (λ l. Rattle.cnf_core.specs.Literal.IsVariable l.var) ls) value c.lits-lits.ensures.variables in
+    let some : 2 ≤ code_of b
+    = code_two b (Rattle.std.proofs.lemmas.List.Elements.All-contains (λ (l : Literal). Rattle.cnf_core.specs.Literal.IsVariable l.var) c.args.clause b variables (subst (λ (ls : List Literal). Contains ls b) value c.choose-other.ensures.in_clause)).0 in
+    let second = added_second old c.args.clause a b c.requires.joined long (subst (λ (ls : List Literal). ArePicked old.assigned.trail ls a b) value pick) some in
+    let lits : c.link.new.self.lits ≡ set (old.watches.lits ++ no_lit ∷ no_lit ∷ []) (2 * n) a
+    = c.link.ensures.lits ∙ ap (λ (ls : List Literal). set ls (2 * c.len-entry.result) a) c.push-2.ensures.lits ∙ ap (λ (k : ℕ). set (old.watches.lits ++ no_lit ∷ no_lit ∷ []) (2 * k) a) c.len-entry.ensures in
+    omega (arith, second, ap (λ (ls : List Literal). links ls (code_of b)) lits, c.requires.list_room (code_of b), c.link.ensures.kept (code_of b), ap (λ (ls : List Listed). (listed_at ls (code_of b)).room) c.push-2.ensures.stands)

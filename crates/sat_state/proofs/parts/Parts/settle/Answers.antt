@@ -5,7 +5,7 @@ use Rattle.cnf_core.specs.Steps.{HasTwoNotFalse}
 use Rattle.sat_state.specs.Trail.{Entry, literals, next_level, Gives}
 use Rattle.sat_state.specs.Stored.{Stored, clause_at}
 use Rattle.sat_state.proofs.Literals.{Contains-from_among}
-use Rattle.sat_state.proofs.Going.{joined_same, goes_same, none_open, two_open, pushed_true, gives_by}
+use Rattle.sat_state.proofs.Going.{stands_still, room_still, no_fewer, joined_same, goes_same, none_open, two_open, pushed_true, gives_by}
 use Rattle.sat_state.proofs.parts.Parts.settle.Goals as goal
 
 pub returns-in_default-clause-falsified : goal.returns-in_default-clause-falsified
@@ -21,7 +21,7 @@ returns-then-is_true-clause-settled c = λ e.
     inl (c.in-Some.one, in_clause, Contains-from_among trues c.in-Some.one (sym c.is_true.ensures ∙ c.if-is_true.true))
 
 pub returns-then-is_some-clause-goes : goal.returns-then-is_some-clause-goes
-returns-then-is_some-clause-goes c = goes_same c.args.self.now _ c.requires.joined c.other_open.ensures.clauses refl refl refl refl refl
+returns-then-is_some-clause-goes c = goes_same c.args.self.now _ c.requires.joined c.other_open.ensures.clauses refl refl (no_fewer _ _ refl) (stands_still _ _ _ _ refl) (room_still _ _ refl) refl refl
 
 pub returns-then-is_some-clause-settled : goal.returns-then-is_some-clause-settled
 returns-then-is_some-clause-settled c = λ e.
@@ -32,7 +32,7 @@ returns-then-is_some-clause-settled c = λ e.
     (two_open c.other_open.result trues clause c.in-Some.one (sym c.is_some.ensures ∙ c.if-is_some.true) c.other_open.ensures.in_clause c.other_open.ensures.other c.other_open.ensures.open in_clause c.in-Some.ensures.open))
 
 pub force-requires-clause-joined : goal.force-requires-clause-joined
-force-requires-clause-joined c = joined_same c.args.self.now _ c.requires.joined c.other_open.ensures.clauses refl refl refl refl refl
+force-requires-clause-joined c = joined_same c.args.self.now _ c.requires.joined c.other_open.ensures.clauses refl refl (no_fewer _ _ refl) (stands_still _ _ _ _ refl) (room_still _ _ refl) refl refl
 
 pub force-requires-clause-gives : goal.force-requires-clause-gives
 force-requires-clause-gives c =
@@ -57,4 +57,4 @@ returns-clause-settled c = λ e.
 
 pub returns-clause-goes : goal.returns-clause-goes
 returns-clause-goes c =
-    Rattle.sat_state.proofs.Going.goes_again c.args.self.now _ _ (goes_same c.args.self.now _ c.requires.joined c.other_open.ensures.clauses refl refl refl refl refl) c.force.ensures.goes
+    Rattle.sat_state.proofs.Going.goes_again c.args.self.now _ _ (goes_same c.args.self.now _ c.requires.joined c.other_open.ensures.clauses refl refl (no_fewer _ _ refl) (stands_still _ _ _ _ refl) (room_still _ _ refl) refl refl) c.force.ensures.goes

@@ -1,47 +1,144 @@
-use Rattle.std.proofs.Common.{◌<◌, length, get_or, set, ap, ◌∙◌, arith}
-use Rattle.sat_state.specs.declared.watches.Head.{Head}
-use Rattle.sat_state.specs.Watching.{Watching, no_lit}
-use Rattle.sat_state.specs.WatchesInside.{literal_at, codes_of, nexts_of}
-use Rattle.sat_state.proofs.Linked.{list_short, literal_again}
-use Rattle.sat_state.proofs.Watched.{head_read, length_seen, lists_seen, code_seen, waiting_seen, not_walked, lits_set, linked_with, walk_with, waiting_with, waiting_any}
+use Rattle.std.proofs.Common.{◌≡◌, ◌∙◌, ◌+◌, ◌*◌, Bool, true, false, cond, ltb, length, refl, ap, arith}
+use Rattle.std.proofs.lemmas.Bool.Decides.{nat_tests}
+use Rattle.sat_state.specs.declared.list.Watch.{Watch}
+use Rattle.sat_state.specs.Watching.{Watching}
+use Rattle.sat_state.specs.WatchesInside.{literal_at}
+use Rattle.sat_state.proofs.Codes.{literal_again}
+use Rattle.sat_state.proofs.Listing.{list_read}
+use Rattle.sat_state.proofs.Walking.{half_name, far_of_name, length_seen, lits_set, fars_set, code_known, room_left, linked_in, linked_walk, linked_stands, linked_waiting}
 use Rattle.sat_state.proofs.watches.Watches.link.Goals as goal
 
-pub overflow_add-head : goal.overflow_add-head
-overflow_add-head c =
+pub overflow_cast-watch : goal.overflow_cast-watch
+overflow_cast-watch c = omega (arith, c.requires.there, length_seen c.self.inside c.args.self.now c.self.view_is, c.self.invariant.listed.few)
+
+pub name-requires : goal.name-requires
+name-requires c =
+    omega (
+      arith,
+      code_known c.self.inside c.args.self.now c.self.view_is c.self.invariant c.code-code.result c.args.lit c.code-code.ensures.value c.code-code.ensures.some c.requires.known,
+      c.self.invariant.listed.few_lists,
+    )
+
+pub push_far-requires : goal.push_far-requires
+push_far-requires c =
     let a = c.self.inside in
-    let head = head_read a.heads.items c.code-code.result c.index-head.result.now (omega (arith, c.requires.known, c.code-code.ensures.value, lists_seen a c.args.self.now c.self.view_is)) c.index-head.ensures in
-    omega (arith, ap (λ (h : Head). h.count) head, list_short (codes_of a.entries.items) (nexts_of a.entries.items) a.heads.items c.self.invariant.linked c.code-code.result, c.self.invariant.linked.few)
+    let now = c.args.self.now in
+    let code = c.code-code.result in
+    let known = code_known a now c.self.view_is c.self.invariant code c.args.lit c.code-code.ensures.value c.code-code.ensures.some c.requires.known in
+    let read = list_read a.lists.items code c.index_mut-then-far.result.now known c.index_mut-then-far.ensures.value in
+    room_left a now c.self.view_is c.self.invariant code c.args.lit c.code-code.ensures.value c.code-code.ensures.some c.requires.known c.index_mut-then-far.result.now read c.requires.room
+
+pub push_near-requires : goal.push_near-requires
+push_near-requires c =
+    let a = c.self.inside in
+    let now = c.args.self.now in
+    let code = c.code-code.result in
+    let known = code_known a now c.self.view_is c.self.invariant code c.args.lit c.code-code.ensures.value c.code-code.ensures.some c.requires.known in
+    let read = list_read a.lists.items code c.index_mut-else-far.result.now known c.index_mut-else-far.ensures.value in
+    room_left a now c.self.view_is c.self.invariant code c.args.lit c.code-code.ensures.value c.code-code.ensures.some c.requires.known c.index_mut-else-far.result.now read c.requires.room
 
 pub invariant_of-self : goal.invariant_of-self
 invariant_of-self c =
     let a = c.self.inside in
     let now = c.args.self.now in
-    let known : c.code-code.result < length a.heads.items = omega (arith, c.requires.known, c.code-code.ensures.value, lists_seen a now c.self.view_is) in
-    let there : c.args.entry < length (codes_of a.entries.items) = omega (arith, c.requires.there, length_seen a now c.self.view_is) in
-    let none : get_or (codes_of a.entries.items) c.args.entry 0 < 2 = omega (arith, code_seen a now c.self.view_is c.args.entry no_lit c.requires.none) in
-    let head = head_read a.heads.items c.code-code.result c.index-head.result.now known c.index-head.ensures in
+    let code = c.code-code.result in
+    let known = code_known a now c.self.view_is c.self.invariant code c.args.lit c.code-code.ensures.value c.code-code.ensures.some c.requires.known in
+    let cell = c.index_mut-then-far.result.now in
+    let read = list_read a.lists.items code cell known c.index_mut-then-far.ensures.value in
+    let x : Watch = record { entry = c.args.entry; blocker = c.args.blocker } in
+    let named : c.name.result ≡ 2 * code + cond true 1 0 = c.name.ensures ∙ ap (λ (b : Bool). 2 * code + cond b 1 0) c.if-far.true in
+    let behind : ltb (length cell.watches) c.push_far.new.self.nears ≡ false = let le = c.push_far.ensures.behind in grind (arith, nat_tests) in
     record {
-      linked = linked_with a.entries.items a.heads.items c.args.entry c.code-code.result c.index-head.result.now head c.self.invariant.linked there none known c.code-code.ensures.some;
-      walk = λ some. walk_with a.entries.items a.heads.items c.args.entry c.code-code.result c.index-head.result.now head c.self.invariant.linked there none known c.code-code.ensures.some
-          a.walked a.previous a.link a.left
-          (λ same. not_walked a c.args.self.now c.self.view_is c.args.lit c.requires.other some (same ∙ c.code-code.ensures.value)) (c.self.invariant.walk some);
+      listed = linked_in a now c.self.view_is c.self.invariant code c.args.lit c.code-code.ensures.value c.code-code.ensures.some c.requires.known
+          c.args.entry c.name.result (length cell.watches) true cell c.push_far.new.self x read c.push_far.ensures.rest c.push_far.ensures.there named refl c.requires.there c.requires.none
+          (ap (λ (b : Bool). cond b 0 1) behind);
+      walk = linked_walk a now c.self.view_is c.self.invariant code c.args.lit c.code-code.ensures.value c.code-code.ensures.some c.requires.known
+          c.args.entry c.name.result (length cell.watches) true cell c.push_far.new.self x read c.push_far.ensures.rest c.push_far.ensures.there named c.requires.other;
     }
 
-pub returns-clause-lits : goal.returns-clause-lits
-returns-clause-lits c =
-    let a = c.self.inside in
-    lits_set a.entries.items c.args.entry (record { lit = c.code-code.result; next = c.index-head.result.now.first }) c.args.lit (ap literal_at c.code-code.ensures.value ∙ literal_again c.args.lit)
-    ∙ ap (λ (w : Watching). set w.lits c.args.entry c.args.lit) c.self.view_is
-
-pub returns-clause-waiting : goal.returns-clause-waiting
-returns-clause-waiting c =
+pub invariant_of-self-else-far : goal.invariant_of-self-else-far
+invariant_of-self-else-far c =
     let a = c.self.inside in
     let now = c.args.self.now in
-    let known : c.code-code.result < length a.heads.items = omega (arith, c.requires.known, c.code-code.ensures.value, lists_seen a now c.self.view_is) in
-    let there : c.args.entry < length (codes_of a.entries.items) = omega (arith, c.requires.there, length_seen a now c.self.view_is) in
-    let none : get_or (codes_of a.entries.items) c.args.entry 0 < 2 = omega (arith, code_seen a now c.self.view_is c.args.entry no_lit c.requires.none) in
-    let head = head_read a.heads.items c.code-code.result c.index-head.result.now known c.index-head.ensures in
-    waiting_any (nexts_of a.entries.items) _ a.link a.left
-    (λ some. waiting_with a.entries.items a.heads.items c.args.entry c.code-code.result c.index-head.result.now head c.self.invariant.linked there none known c.code-code.ensures.some
-    a.walked a.previous a.link a.left (c.self.invariant.walk some))
-    ∙ waiting_seen a c.args.self.now c.self.view_is
+    let code = c.code-code.result in
+    let known = code_known a now c.self.view_is c.self.invariant code c.args.lit c.code-code.ensures.value c.code-code.ensures.some c.requires.known in
+    let cell = c.index_mut-else-far.result.now in
+    let read = list_read a.lists.items code cell known c.index_mut-else-far.ensures.value in
+    let x : Watch = record { entry = c.args.entry; blocker = c.args.blocker } in
+    let named : c.name.result ≡ 2 * code + cond false 1 0 = c.name.ensures ∙ ap (λ (b : Bool). 2 * code + cond b 1 0) c.if-far.false in
+    let before : ltb cell.nears c.push_near.new.self.nears ≡ true = let more = c.push_near.ensures.rest.nears in grind (arith, nat_tests) in
+    record {
+      listed = linked_in a now c.self.view_is c.self.invariant code c.args.lit c.code-code.ensures.value c.code-code.ensures.some c.requires.known
+          c.args.entry c.name.result cell.nears false cell c.push_near.new.self x read c.push_near.ensures.rest c.push_near.ensures.there named refl c.requires.there c.requires.none
+          (ap (λ (b : Bool). cond b 0 1) before);
+      walk = linked_walk a now c.self.view_is c.self.invariant code c.args.lit c.code-code.ensures.value c.code-code.ensures.some c.requires.known
+          c.args.entry c.name.result cell.nears false cell c.push_near.new.self x read c.push_near.ensures.rest c.push_near.ensures.there named c.requires.other;
+    }
+
+pub returns-then-far-clause-lits : goal.returns-then-far-clause-lits
+returns-then-far-clause-lits c =
+    let a = c.self.inside in
+    let half = half_name c.name.result c.code-code.result c.args.far c.name.ensures in
+    lits_set a.names.items c.args.self.now.lits c.args.entry c.name.result c.args.lit (ap (λ (w : Watching). w.lits) c.self.view_is) (ap literal_at (half ∙ c.code-code.ensures.value) ∙ literal_again c.args.lit)
+
+pub returns-else-far-clause-lits : goal.returns-else-far-clause-lits
+returns-else-far-clause-lits c =
+    let a = c.self.inside in
+    let half = half_name c.name.result c.code-code.result c.args.far c.name.ensures in
+    lits_set a.names.items c.args.self.now.lits c.args.entry c.name.result c.args.lit (ap (λ (w : Watching). w.lits) c.self.view_is) (ap literal_at (half ∙ c.code-code.ensures.value) ∙ literal_again c.args.lit)
+
+pub returns-then-far-clause-fars : goal.returns-then-far-clause-fars
+returns-then-far-clause-fars c =
+    fars_set c.self.inside.names.items c.args.self.now.fars c.args.entry c.name.result c.args.far (ap (λ (w : Watching). w.fars) c.self.view_is) (far_of_name c.name.result c.code-code.result c.args.far c.name.ensures)
+
+pub returns-else-far-clause-fars : goal.returns-else-far-clause-fars
+returns-else-far-clause-fars c =
+    fars_set c.self.inside.names.items c.args.self.now.fars c.args.entry c.name.result c.args.far (ap (λ (w : Watching). w.fars) c.self.view_is) (far_of_name c.name.result c.code-code.result c.args.far c.name.ensures)
+
+pub returns-then-far-clause-stands : goal.returns-then-far-clause-stands
+returns-then-far-clause-stands c =
+    let a = c.self.inside in
+    let now = c.args.self.now in
+    let code = c.code-code.result in
+    let known = code_known a now c.self.view_is c.self.invariant code c.args.lit c.code-code.ensures.value c.code-code.ensures.some c.requires.known in
+    let cell = c.index_mut-then-far.result.now in
+    let read = list_read a.lists.items code cell known c.index_mut-then-far.ensures.value in
+    let named : c.name.result ≡ 2 * code + cond true 1 0 = c.name.ensures ∙ ap (λ (b : Bool). 2 * code + cond b 1 0) c.if-far.true in
+    linked_stands a now c.self.view_is c.self.invariant code c.args.lit c.code-code.ensures.value c.code-code.ensures.some c.requires.known
+    c.args.entry c.name.result (length cell.watches) true cell c.push_far.new.self (record { entry = c.args.entry; blocker = c.args.blocker }) read c.push_far.ensures.rest c.push_far.ensures.there named
+
+pub returns-else-far-clause-stands : goal.returns-else-far-clause-stands
+returns-else-far-clause-stands c =
+    let a = c.self.inside in
+    let now = c.args.self.now in
+    let code = c.code-code.result in
+    let known = code_known a now c.self.view_is c.self.invariant code c.args.lit c.code-code.ensures.value c.code-code.ensures.some c.requires.known in
+    let cell = c.index_mut-else-far.result.now in
+    let read = list_read a.lists.items code cell known c.index_mut-else-far.ensures.value in
+    let named : c.name.result ≡ 2 * code + cond false 1 0 = c.name.ensures ∙ ap (λ (b : Bool). 2 * code + cond b 1 0) c.if-far.false in
+    linked_stands a now c.self.view_is c.self.invariant code c.args.lit c.code-code.ensures.value c.code-code.ensures.some c.requires.known
+    c.args.entry c.name.result cell.nears false cell c.push_near.new.self (record { entry = c.args.entry; blocker = c.args.blocker }) read c.push_near.ensures.rest c.push_near.ensures.there named
+
+pub returns-then-far-clause-waiting : goal.returns-then-far-clause-waiting
+returns-then-far-clause-waiting c =
+    let a = c.self.inside in
+    let now = c.args.self.now in
+    let code = c.code-code.result in
+    let known = code_known a now c.self.view_is c.self.invariant code c.args.lit c.code-code.ensures.value c.code-code.ensures.some c.requires.known in
+    let cell = c.index_mut-then-far.result.now in
+    let read = list_read a.lists.items code cell known c.index_mut-then-far.ensures.value in
+    let named : c.name.result ≡ 2 * code + cond true 1 0 = c.name.ensures ∙ ap (λ (b : Bool). 2 * code + cond b 1 0) c.if-far.true in
+    linked_waiting a now c.self.view_is c.self.invariant code c.args.lit c.code-code.ensures.value c.code-code.ensures.some c.requires.known
+    c.args.entry c.name.result (length cell.watches) true cell c.push_far.new.self (record { entry = c.args.entry; blocker = c.args.blocker }) read c.push_far.ensures.rest c.push_far.ensures.there named c.requires.other
+
+pub returns-else-far-clause-waiting : goal.returns-else-far-clause-waiting
+returns-else-far-clause-waiting c =
+    let a = c.self.inside in
+    let now = c.args.self.now in
+    let code = c.code-code.result in
+    let known = code_known a now c.self.view_is c.self.invariant code c.args.lit c.code-code.ensures.value c.code-code.ensures.some c.requires.known in
+    let cell = c.index_mut-else-far.result.now in
+    let read = list_read a.lists.items code cell known c.index_mut-else-far.ensures.value in
+    let named : c.name.result ≡ 2 * code + cond false 1 0 = c.name.ensures ∙ ap (λ (b : Bool). 2 * code + cond b 1 0) c.if-far.false in
+    linked_waiting a now c.self.view_is c.self.invariant code c.args.lit c.code-code.ensures.value c.code-code.ensures.some c.requires.known
+    c.args.entry c.name.result cell.nears false cell c.push_near.new.self (record { entry = c.args.entry; blocker = c.args.blocker }) read c.push_near.ensures.rest c.push_near.ensures.there named c.requires.other

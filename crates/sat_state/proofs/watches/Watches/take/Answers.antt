@@ -1,127 +1,147 @@
-use Rattle.std.proofs.Common.{◌<◌, ℕ, set, refl, sym, ap, ◌∙◌, arith}
+use Rattle.std.proofs.Common.{◌≡◌, ◌<◌, ◌≤◌, ◌∙◌, ◌/◌, ◌+◌, ◌-◌, ℕ, Bool, true, false, length, get_or, refl, sym, ap, subst, arith}
+use Rattle.sat_state.specs.Listed.{Listed}
 use Rattle.sat_state.specs.Watching.{Watching, no_lit}
-use Rattle.sat_state.proofs.Watched.{head_read, lits_set}
-use Rattle.sat_state.proofs.Walked.{next_read, some_left, link_there, drop_seen, first_seen, unused, taken_first, walked_first, rest_first, taken_later, walked_later, rest_later, lits_later, previous_in}
+use Rattle.sat_state.proofs.Listing.{list_read, listed_out}
+use Rattle.sat_state.proofs.Walking.{some_left, next_in, walk_known, next_fits, next_first, entry_there, low_far, within_near, is_far, is_near, lits_set, fars_set, taken, taken_stands, taken_waiting, walks_out, read_next}
 use Rattle.sat_state.proofs.watches.Watches.take.Goals as goal
 
-pub index-requires : goal.index-requires
-index-requires c =
-    let a = c.self.inside in
-    let some = some_left a c.args.self.now c.self.view_is c.requires in
-    omega (arith, link_there a c.args.self.now c.self.view_is c.self.invariant some, a.entries.ok.0)
+pub overflow_add-place : goal.overflow_add-place
+overflow_add-place c =
+    let some = some_left c.self.inside c.args.self.now c.self.view_is c.requires in
+    omega (arith, next_fits c.self.inside c.args.self.now c.self.view_is c.self.invariant some)
 
-pub index_mut-requires-then-self-head : goal.index_mut-requires-then-self-head
-index_mut-requires-then-self-head c =
+pub index_mut-requires : goal.index_mut-requires
+index_mut-requires c =
     let a = c.self.inside in
-    let some = some_left a c.args.self.now c.self.view_is c.requires in
-    omega (arith, link_there a c.args.self.now c.self.view_is c.self.invariant some, a.entries.ok.0)
+    let now = c.args.self.now in
+    let some = some_left a now c.self.view_is c.requires in
+    omega (arith, read_next a now c.self.view_is c.self.invariant some c.index.result.now c.at-watch.result c.index.ensures c.at-watch.ensures, entry_there a now c.self.view_is c.self.invariant some, a.names.ok.0)
 
-pub index_mut-requires-else-self-head-3 : goal.index_mut-requires-else-self-head-3
-index_mut-requires-else-self-head-3 c =
-    let a = c.self.inside in
-    let some = some_left a c.args.self.now c.self.view_is c.requires in
-    omega (arith, link_there a c.args.self.now c.self.view_is c.self.invariant some, a.entries.ok.0)
+-- a far one
 
-pub index-before-requires : goal.index-before-requires
-index-before-requires c =
+pub remove_far-requires-clause-far : goal.remove_far-requires-clause-far
+remove_far-requires-clause-far c =
     let a = c.self.inside in
-    let some = some_left a c.args.self.now c.self.view_is c.requires in
-    let there = link_there a c.args.self.now c.self.view_is c.self.invariant some in
-    let w = c.self.invariant.walk some in
-    let head = head_read a.heads.items a.walked c.index-head.result.now w.known c.index-head.ensures in
-    let less : a.left < c.index-head.result.now.count = omega (arith, c.if-self-head.false, w.within, ap (λ (h : Rattle.sat_state.specs.declared.watches.Head.Head). h.count) head) in
-    omega (
-      arith,
-      a.entries.ok.0,
-      previous_in a.entries.items a.heads.items a.walked a.previous a.link a.left c.index.result.now.next c.index-head.result.now head c.self.invariant.linked w some
-          (next_read a.entries.items a.link c.index.result.now there c.index.ensures) less,
-    )
+    let now = c.args.self.now in
+    let some = some_left a now c.self.view_is c.requires in
+    let cell = c.index_mut-then-self-eq1.result.now in
+    let read = list_read a.lists.items (a.walked / 2) cell (walk_known a now c.self.view_is c.self.invariant some) c.index_mut-then-self-eq1.ensures.value in
+    omega (arith, low_far a.lists.items a.walked a.low a.left (c.self.invariant.walk some) (is_far a.walked c.if-self-eq1.true), ap (λ (l : Listed). l.nears) read)
 
-pub index_mut-requires-else-self-head : goal.index_mut-requires-else-self-head
-index_mut-requires-else-self-head c =
+pub remove_far-requires-clause-there : goal.remove_far-requires-clause-there
+remove_far-requires-clause-there c =
     let a = c.self.inside in
-    let some = some_left a c.args.self.now c.self.view_is c.requires in
-    let there = link_there a c.args.self.now c.self.view_is c.self.invariant some in
-    let w = c.self.invariant.walk some in
-    let head = head_read a.heads.items a.walked c.index-head.result.now w.known c.index-head.ensures in
-    let less : a.left < c.index-head.result.now.count = omega (arith, c.if-self-head.false, w.within, ap (λ (h : Rattle.sat_state.specs.declared.watches.Head.Head). h.count) head) in
-    omega (
-      arith,
-      a.entries.ok.0,
-      previous_in a.entries.items a.heads.items a.walked a.previous a.link a.left c.index.result.now.next c.index-head.result.now head c.self.invariant.linked w some
-          (next_read a.entries.items a.link c.index.result.now there c.index.ensures) less,
-    )
+    let now = c.args.self.now in
+    let some = some_left a now c.self.view_is c.requires in
+    let cell = c.index_mut-then-self-eq1.result.now in
+    let read = list_read a.lists.items (a.walked / 2) cell (walk_known a now c.self.view_is c.self.invariant some) c.index_mut-then-self-eq1.ensures.value in
+    omega (arith, next_in a now c.self.view_is c.self.invariant some, ap (λ (l : Listed). length l.watches) read)
 
 pub invariant_of-self : goal.invariant_of-self
 invariant_of-self c =
     let a = c.self.inside in
-    let some = some_left a c.args.self.now c.self.view_is c.requires in
-    let there = link_there a c.args.self.now c.self.view_is c.self.invariant some in
-    let w = c.self.invariant.walk some in
-    let head = head_read a.heads.items a.walked c.index-head.result.now w.known c.index-head.ensures in
-    let at = next_read a.entries.items a.link c.index.result.now there c.index.ensures in
+    let now = c.args.self.now in
+    let is = c.self.view_is in
+    let inv = c.self.invariant in
+    let some = some_left a now is c.requires in
+    let cell = c.index_mut-then-self-eq1.result.now in
+    let read = list_read a.lists.items (a.walked / 2) cell (walk_known a now is inv some) c.index_mut-then-self-eq1.ensures.value in
+    let out = taken a now is inv some cell c.remove_far.new.self true read c.remove_far.ensures.rest in
     record {
-      linked = taken_first a.entries.items a.heads.items a.walked a.previous a.link a.left c.index.result.now.next c.index-head.result.now head c.self.invariant.linked w some at c.if-self-head.true;
-      walk = λ more. walked_first a.entries.items a.heads.items a.walked a.previous a.link a.left c.index.result.now.next c.index-head.result.now head c.self.invariant.linked w some at c.if-self-head.true;
+      listed = listed_out a.names.items a.lists.items (a.walked / 2) c.at-watch.result.entry (a.low + (a.left - 1)) true c.remove_far.new.self inv.listed (walk_known a now is inv some) out (sym (read_next a now c.self.view_is c.self.invariant some c.index.result.now c.at-watch.result c.index.ensures c.at-watch.ensures));
+      walk = λ more. walks_out a.lists.items a.walked a.low a.left (a.low + (a.left - 1)) true c.remove_far.new.self (inv.walk some) some (is_far a.walked c.if-self-eq1.true) out;
     }
 
-pub invariant_of-self-else-self-head : goal.invariant_of-self-else-self-head
-invariant_of-self-else-self-head c =
+pub returns-then-self-eq1-clause-lits : goal.returns-then-self-eq1-clause-lits
+returns-then-self-eq1-clause-lits c =
     let a = c.self.inside in
-    let some = some_left a c.args.self.now c.self.view_is c.requires in
-    let there = link_there a c.args.self.now c.self.view_is c.self.invariant some in
-    let w = c.self.invariant.walk some in
-    let head = head_read a.heads.items a.walked c.index-head.result.now w.known c.index-head.ensures in
-    let at = next_read a.entries.items a.link c.index.result.now there c.index.ensures in
-    let less : a.left < c.index-head.result.now.count = omega (arith, c.if-self-head.false, w.within, ap (λ (h : Rattle.sat_state.specs.declared.watches.Head.Head). h.count) head) in
-    let known = previous_in a.entries.items a.heads.items a.walked a.previous a.link a.left c.index.result.now.next c.index-head.result.now head c.self.invariant.linked w some at less in
+    let now = c.args.self.now in
+    let some = some_left a now c.self.view_is c.requires in
+    lits_set a.names.items now.lits c.at-watch.result.entry 0 no_lit (ap (λ (w : Watching). w.lits) c.self.view_is) refl
+    ∙ ap (λ (n : ℕ). Rattle.std.proofs.Common.set now.lits n no_lit) (read_next a now c.self.view_is c.self.invariant some c.index.result.now c.at-watch.result c.index.ensures c.at-watch.ensures ∙ sym (next_first a now c.self.view_is c.self.invariant some))
+
+pub returns-then-self-eq1-clause-fars : goal.returns-then-self-eq1-clause-fars
+returns-then-self-eq1-clause-fars c =
+    let a = c.self.inside in
+    let now = c.args.self.now in
+    let some = some_left a now c.self.view_is c.requires in
+    fars_set a.names.items now.fars c.at-watch.result.entry 0 false (ap (λ (w : Watching). w.fars) c.self.view_is) refl
+    ∙ ap (λ (n : ℕ). Rattle.std.proofs.Common.set now.fars n false) (read_next a now c.self.view_is c.self.invariant some c.index.result.now c.at-watch.result c.index.ensures c.at-watch.ensures ∙ sym (next_first a now c.self.view_is c.self.invariant some))
+
+pub returns-then-self-eq1-clause-stands : goal.returns-then-self-eq1-clause-stands
+returns-then-self-eq1-clause-stands c =
+    let a = c.self.inside in
+    let now = c.args.self.now in
+    let some = some_left a now c.self.view_is c.requires in
+    let cell = c.index_mut-then-self-eq1.result.now in
+    let read = list_read a.lists.items (a.walked / 2) cell (walk_known a now c.self.view_is c.self.invariant some) c.index_mut-then-self-eq1.ensures.value in
+    taken_stands a now c.self.view_is c.self.invariant some cell c.remove_far.new.self true read c.remove_far.ensures.rest
+
+pub returns-then-self-eq1-clause-waiting : goal.returns-then-self-eq1-clause-waiting
+returns-then-self-eq1-clause-waiting c =
+    let a = c.self.inside in
+    let now = c.args.self.now in
+    let some = some_left a now c.self.view_is c.requires in
+    let cell = c.index_mut-then-self-eq1.result.now in
+    let read = list_read a.lists.items (a.walked / 2) cell (walk_known a now c.self.view_is c.self.invariant some) c.index_mut-then-self-eq1.ensures.value in
+    taken_waiting a now c.self.view_is c.self.invariant some cell c.remove_far.new.self true read c.remove_far.ensures.rest c.remove_far.ensures.before
+
+-- a near one
+
+pub remove_near-requires : goal.remove_near-requires
+remove_near-requires c =
+    let a = c.self.inside in
+    let now = c.args.self.now in
+    let some = some_left a now c.self.view_is c.requires in
+    let cell = c.index_mut-else-self-eq1.result.now in
+    let read = list_read a.lists.items (a.walked / 2) cell (walk_known a now c.self.view_is c.self.invariant some) c.index_mut-else-self-eq1.ensures.value in
+    omega (arith, some, within_near a.lists.items a.walked a.low a.left (c.self.invariant.walk some) (is_near a.walked c.if-self-eq1.false), ap (λ (l : Listed). l.nears) read)
+
+pub invariant_of-self-else-self-eq1 : goal.invariant_of-self-else-self-eq1
+invariant_of-self-else-self-eq1 c =
+    let a = c.self.inside in
+    let now = c.args.self.now in
+    let is = c.self.view_is in
+    let inv = c.self.invariant in
+    let some = some_left a now is c.requires in
+    let cell = c.index_mut-else-self-eq1.result.now in
+    let read = list_read a.lists.items (a.walked / 2) cell (walk_known a now is inv some) c.index_mut-else-self-eq1.ensures.value in
+    let out = taken a now is inv some cell c.remove_near.new.self false read c.remove_near.ensures.rest in
     record {
-      linked = taken_later a.entries.items a.heads.items a.walked a.previous a.link a.left c.index.result.now.next c.index-head.result.now head c.self.invariant.linked w some at less c.index-before.result.now known c.index-before.ensures;
-      walk = λ more. walked_later a.entries.items a.heads.items a.walked a.previous a.link a.left c.index.result.now.next c.index-head.result.now head c.self.invariant.linked w some at less c.index-before.result.now known c.index-before.ensures;
+      listed = listed_out a.names.items a.lists.items (a.walked / 2) c.at-watch.result.entry (a.low + (a.left - 1)) false c.remove_near.new.self inv.listed (walk_known a now is inv some) out (sym (read_next a now c.self.view_is c.self.invariant some c.index.result.now c.at-watch.result c.index.ensures c.at-watch.ensures));
+      walk = λ more. walks_out a.lists.items a.walked a.low a.left (a.low + (a.left - 1)) false c.remove_near.new.self (inv.walk some) some (is_near a.walked c.if-self-eq1.false) out;
     }
 
-pub returns-then-self-head-clause-lits : goal.returns-then-self-head-clause-lits
-returns-then-self-head-clause-lits c =
+pub returns-else-self-eq1-clause-lits : goal.returns-else-self-eq1-clause-lits
+returns-else-self-eq1-clause-lits c =
     let a = c.self.inside in
-    let some = some_left a c.args.self.now c.self.view_is c.requires in
-    lits_set a.entries.items a.link unused no_lit refl
-    ∙ ap (λ (w : Watching). set w.lits a.link no_lit) c.self.view_is
-    ∙ ap (λ (k : ℕ). set c.args.self.now.lits k no_lit) (sym (first_seen a c.args.self.now c.self.view_is c.self.invariant some))
+    let now = c.args.self.now in
+    let some = some_left a now c.self.view_is c.requires in
+    lits_set a.names.items now.lits c.at-watch.result.entry 0 no_lit (ap (λ (w : Watching). w.lits) c.self.view_is) refl
+    ∙ ap (λ (n : ℕ). Rattle.std.proofs.Common.set now.lits n no_lit) (read_next a now c.self.view_is c.self.invariant some c.index.result.now c.at-watch.result c.index.ensures c.at-watch.ensures ∙ sym (next_first a now c.self.view_is c.self.invariant some))
 
-pub returns-then-self-head-clause-waiting : goal.returns-then-self-head-clause-waiting
-returns-then-self-head-clause-waiting c =
+pub returns-else-self-eq1-clause-fars : goal.returns-else-self-eq1-clause-fars
+returns-else-self-eq1-clause-fars c =
     let a = c.self.inside in
-    let some = some_left a c.args.self.now c.self.view_is c.requires in
-    let there = link_there a c.args.self.now c.self.view_is c.self.invariant some in
-    let w = c.self.invariant.walk some in
-    let head = head_read a.heads.items a.walked c.index-head.result.now w.known c.index-head.ensures in
-    let at = next_read a.entries.items a.link c.index.result.now there c.index.ensures in
-    rest_first a.entries.items a.heads.items a.walked a.previous a.link a.left c.index.result.now.next c.index-head.result.now head c.self.invariant.linked w some at c.if-self-head.true
-    ∙ drop_seen a c.args.self.now c.self.view_is c.self.invariant some c.index.result.now.next at
+    let now = c.args.self.now in
+    let some = some_left a now c.self.view_is c.requires in
+    fars_set a.names.items now.fars c.at-watch.result.entry 0 false (ap (λ (w : Watching). w.fars) c.self.view_is) refl
+    ∙ ap (λ (n : ℕ). Rattle.std.proofs.Common.set now.fars n false) (read_next a now c.self.view_is c.self.invariant some c.index.result.now c.at-watch.result c.index.ensures c.at-watch.ensures ∙ sym (next_first a now c.self.view_is c.self.invariant some))
 
-pub returns-else-self-head-clause-lits : goal.returns-else-self-head-clause-lits
-returns-else-self-head-clause-lits c =
+pub returns-else-self-eq1-clause-stands : goal.returns-else-self-eq1-clause-stands
+returns-else-self-eq1-clause-stands c =
     let a = c.self.inside in
-    let some = some_left a c.args.self.now c.self.view_is c.requires in
-    let there = link_there a c.args.self.now c.self.view_is c.self.invariant some in
-    let w = c.self.invariant.walk some in
-    let head = head_read a.heads.items a.walked c.index-head.result.now w.known c.index-head.ensures in
-    let at = next_read a.entries.items a.link c.index.result.now there c.index.ensures in
-    let less : a.left < c.index-head.result.now.count = omega (arith, c.if-self-head.false, w.within, ap (λ (h : Rattle.sat_state.specs.declared.watches.Head.Head). h.count) head) in
-    let known = previous_in a.entries.items a.heads.items a.walked a.previous a.link a.left c.index.result.now.next c.index-head.result.now head c.self.invariant.linked w some at less in
-    lits_later a.entries.items a.heads.items a.walked a.previous a.link a.left c.index.result.now.next c.index-head.result.now head c.self.invariant.linked w some at less c.index-before.result.now known c.index-before.ensures
-    ∙ ap (λ (x : Watching). set x.lits a.link no_lit) c.self.view_is
-    ∙ ap (λ (k : ℕ). set c.args.self.now.lits k no_lit) (sym (first_seen a c.args.self.now c.self.view_is c.self.invariant some))
+    let now = c.args.self.now in
+    let some = some_left a now c.self.view_is c.requires in
+    let cell = c.index_mut-else-self-eq1.result.now in
+    let read = list_read a.lists.items (a.walked / 2) cell (walk_known a now c.self.view_is c.self.invariant some) c.index_mut-else-self-eq1.ensures.value in
+    taken_stands a now c.self.view_is c.self.invariant some cell c.remove_near.new.self false read c.remove_near.ensures.rest
 
-pub returns-else-self-head-clause-waiting : goal.returns-else-self-head-clause-waiting
-returns-else-self-head-clause-waiting c =
+pub returns-else-self-eq1-clause-waiting : goal.returns-else-self-eq1-clause-waiting
+returns-else-self-eq1-clause-waiting c =
     let a = c.self.inside in
-    let some = some_left a c.args.self.now c.self.view_is c.requires in
-    let there = link_there a c.args.self.now c.self.view_is c.self.invariant some in
-    let w = c.self.invariant.walk some in
-    let head = head_read a.heads.items a.walked c.index-head.result.now w.known c.index-head.ensures in
-    let at = next_read a.entries.items a.link c.index.result.now there c.index.ensures in
-    let less : a.left < c.index-head.result.now.count = omega (arith, c.if-self-head.false, w.within, ap (λ (h : Rattle.sat_state.specs.declared.watches.Head.Head). h.count) head) in
-    let known = previous_in a.entries.items a.heads.items a.walked a.previous a.link a.left c.index.result.now.next c.index-head.result.now head c.self.invariant.linked w some at less in
-    rest_later a.entries.items a.heads.items a.walked a.previous a.link a.left c.index.result.now.next c.index-head.result.now head c.self.invariant.linked w some at less c.index-before.result.now known c.index-before.ensures
-    ∙ drop_seen a c.args.self.now c.self.view_is c.self.invariant some c.index.result.now.next at
+    let now = c.args.self.now in
+    let some = some_left a now c.self.view_is c.requires in
+    let cell = c.index_mut-else-self-eq1.result.now in
+    let read = list_read a.lists.items (a.walked / 2) cell (walk_known a now c.self.view_is c.self.invariant some) c.index_mut-else-self-eq1.ensures.value in
+    taken_waiting a now c.self.view_is c.self.invariant some cell c.remove_near.new.self false read c.remove_near.ensures.rest c.remove_near.ensures.before
