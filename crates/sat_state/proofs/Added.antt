@@ -9,7 +9,7 @@ use Rattle.sat_state.specs.Trail.{Entry, literals, level_of, IsOpenBelow}
 use Rattle.sat_state.specs.Stored.{clause_at}
 use Rattle.sat_state.specs.Watching.{no_lit, lit_at, far_at, listed_at, IsInSomeList, links}
 use Rattle.sat_state.specs.Guards.{is_false, IsFresh, ArePartners, IsPair, AreWatched}
-use Rattle.sat_state.specs.declared.list.Watch.{Watch}
+use Rattle.sat_state.specs.Watched.{Watched}
 use Rattle.sat_state.specs.Joined.{AreJoined, IsNotLow, HasHigh, IsOfClause, uses, place_in_queue, heads_of}
 use Rattle.sat_state.specs.declared.parts.Parts.{Parts}
 use Rattle.sat_state.proofs.Literals.{Contains-from_among, among_from_Contains}
@@ -252,7 +252,7 @@ pub joined_added : (old new : Parts) (clause : List Literal) → AreJoined old �
     → length new.watches.lits ≡ length old.watches.lits + 2 → ((x : ℕ) → x < length old.watches.lits → lit_at new.watches.lits x ≡ lit_at old.watches.lits x)
     → length new.watches.fars ≡ length old.watches.fars + 2 → ((x : ℕ) → x < length old.watches.fars → far_at new.watches.fars x ≡ far_at old.watches.fars x) → IsNew old.assigned.trail (heads_of old.queue new.watches.fars) (length old.clauses.lists) clause new.watches.lits
     → new.clauses.lists ≡ old.clauses.lists ++ clause ∷ [] → old.watches.lists ≤ new.watches.lists
-    → ((x : Watch) → IsInSomeList new.watches.stands x → IsInSomeList old.watches.stands x ⊎ IsOfClause (old.clauses.lists ++ clause ∷ []) new.watches.lits x)
+    → ((x : Watched) → IsInSomeList new.watches.stands x → IsInSomeList old.watches.stands x ⊎ IsOfClause (old.clauses.lists ++ clause ∷ []) new.watches.lits x)
     → ((c : ℕ) → uses (old.clauses.lists ++ clause ∷ []) c ≤ (listed_at new.watches.stands c).room)
     → new.assigned ≡ old.assigned → new.queue ≡ old.queue → AreJoined new
 joined_added old new clause j may known is_clause size same more stays fresh clauses lists stays_in rooms assigned queue = record {
@@ -273,6 +273,7 @@ joined_added old new clause j may known is_clause size same more stays fresh cla
       let there : x.entry / 2 < length old.clauses.lists = omega (arith, is.there, j.watched.entries) in
       let now : IsOfClause (old.clauses.lists ++ clause ∷ []) new.watches.lits x = record {
         there = omega (arith, is.there, size);
+        two = λ pair. subst (λ (c : List Literal). length c ≡ 2) (sym (get_or_append_left old.clauses.lists (clause ∷ []) [] (x.entry / 2) there)) (is.two pair);
         in_clause = subst (λ (c : List Literal). Contains c x.blocker) (sym (get_or_append_left old.clauses.lists (clause ∷ []) [] (x.entry / 2) there)) is.in_clause;
       } in now)
       (λ (is : IsOfClause (old.clauses.lists ++ clause ∷ []) new.watches.lits x). is)
@@ -285,10 +286,11 @@ joined_added old new clause j may known is_clause size same more stays fresh cla
 -- ---- room for the two entries of a new clause
 
 -- a watch of the new clause
-pub both_of : (clauses : List (List Literal)) (clause lits : List Literal) (x : Watch) (e : ℕ) (l : Literal) → x ≡ record { entry = e; blocker = l } → e / 2 ≡ length clauses → e < length lits → Contains clause l → IsOfClause (clauses ++ clause ∷ []) lits x
-both_of clauses clause lits x e l is place there in_clause =
+pub both_of : (clauses : List (List Literal)) (clause lits : List Literal) (x : Watched) (e : ℕ) (pair : Bool) (l : Literal) → x ≡ record { entry = e; pair = pair; blocker = l } → e / 2 ≡ length clauses → e < length lits → (pair ≡ true → length clause ≡ 2) → Contains clause l → IsOfClause (clauses ++ clause ∷ []) lits x
+both_of clauses clause lits x e pair l is place there two in_clause =
+    let at = sym (get_or_push clauses clause [] (e / 2) (sym place)) in
     subst (IsOfClause (clauses ++ clause ∷ []) lits) (sym is)
-    (record { there = there; in_clause = subst (λ (c : List Literal). Contains c l) (sym (get_or_push clauses clause [] (e / 2) (sym place))) in_clause })
+    (record { there = there; two = λ said. subst (λ (c : List Literal). length c ≡ 2) at (two said); in_clause = subst (λ (c : List Literal). Contains c l) at in_clause })
 
 module _ (old : Parts) (clause : List Literal) (a b : Literal) (j : AreJoined old) (long : 2 ≤ length clause) (pick : ArePicked old.assigned.trail clause a b) where
   abbrev blank : List Literal

@@ -4,7 +4,7 @@ use Rattle.std.proofs.lemmas.Bool.{cases_eq, ne_eqb}
 use Rattle.std.proofs.lemmas.Bool.Decides.{nat_tests}
 use Rattle.std.proofs.lemmas.List.{get_or_push, get_or_append_left, length_push}
 use Rattle.std.specs.List.{SwappedAt}
-use Rattle.sat_state.specs.declared.list.Watch.{Watch}
+use Rattle.sat_state.specs.Watched.{Watched}
 use Rattle.sat_state.specs.Listed.{Listed, IsWithout}
 
 -- the place at which another stands that was at a place, where one moved from its own to another's
@@ -19,8 +19,8 @@ elsewhere now was k ne = ap (λ (b : Bool). cond b was k) (ne_eqb k now ne)
 
 -- a far one goes out, and the last takes its place
 pub without_far : (old new : Listed) (place : ℕ) → old.nears ≤ place → place < length old.watches → length new.watches + 1 ≡ length old.watches → new.nears ≡ old.nears
-    → ((d : Watch) → place + 1 < length old.watches → get_or new.watches place d ≡ get_or old.watches (length old.watches - 1) d)
-    → ((k : ℕ) (d : Watch) → k ≢ place → k + 1 < length old.watches → get_or new.watches k d ≡ get_or old.watches k d) → IsWithout old new place true
+    → ((d : Watched) → place + 1 < length old.watches → get_or new.watches place d ≡ get_or old.watches (length old.watches - 1) d)
+    → ((k : ℕ) (d : Watched) → k ≢ place → k + 1 < length old.watches → get_or new.watches k d ≡ get_or old.watches k d) → IsWithout old new place true
 without_far old new place far there size nears filled stays =
     let last = length old.watches - 1 in
     record {
@@ -62,7 +62,7 @@ without_far old new place far there size nears filled stays =
     }
 
 -- a far one comes in, as the last
-pub with_far : (old new : Listed) (w : Watch) → new.watches ≡ old.watches ++ w ∷ [] → new.nears ≡ old.nears → IsWithout new old (length old.watches) true
+pub with_far : (old new : Listed) (w : Watched) → new.watches ≡ old.watches ++ w ∷ [] → new.nears ≡ old.nears → IsWithout new old (length old.watches) true
 with_far old new w is nears =
     let size : length new.watches ≡ length old.watches + 1 = ap length is ∙ length_push old.watches w in
     record {
@@ -74,13 +74,13 @@ with_far old new w is nears =
       within = λ k lt. omega (arith, lt, size);
       other = λ k lt e. absurd (omega (arith, lt, e));
       side = λ k lt. ap (ltb k) nears;
-      same = λ k d lt. sym (ap (λ (ws : List Watch). get_or ws k d) is ∙ get_or_append_left old.watches (w ∷ []) d k lt);
+      same = λ k d lt. sym (ap (λ (ws : List Watched). get_or ws k d) is ∙ get_or_append_left old.watches (w ∷ []) d k lt);
       back = λ k lt ne. (omega (arith, lt, size, ne), refl);
       again = λ k lt. refl;
     }
 
 -- a near one comes in: the first far one goes to the end
-pub with_near : (old new : Listed) (w : Watch) → old.nears ≤ length old.watches → length new.watches ≡ length old.watches + 1 → new.nears ≡ old.nears + 1
+pub with_near : (old new : Listed) (w : Watched) → old.nears ≤ length old.watches → length new.watches ≡ length old.watches + 1 → new.nears ≡ old.nears + 1
     → SwappedAt (old.watches ++ w ∷ []) new.watches old.nears (length old.watches) → IsWithout new old old.nears false
 with_near old new w in_it size nears swapped =
     let n = old.nears in
@@ -122,14 +122,14 @@ with_near old new w in_it size nears swapped =
           (cases_eq k n);
     }
 
-pub near_there : (old new : Listed) (w : Watch) → SwappedAt (old.watches ++ w ∷ []) new.watches old.nears (length old.watches) → (d : Watch) → get_or new.watches old.nears d ≡ w
+pub near_there : (old new : Listed) (w : Watched) → SwappedAt (old.watches ++ w ∷ []) new.watches old.nears (length old.watches) → (d : Watched) → get_or new.watches old.nears d ≡ w
 near_there old new w swapped d = swapped.0 d ∙ get_or_push old.watches w d (length old.watches) refl
 
 -- a near one goes out: the last near one takes its place, and the last far one that one's
-pub without_near : (old new : Listed) (mid : List Watch) (place : ℕ) → old.nears ≤ length old.watches → place < old.nears → length mid ≡ length old.watches → length new.watches + 1 ≡ length mid → new.nears ≡ old.nears - 1
+pub without_near : (old new : Listed) (mid : List Watched) (place : ℕ) → old.nears ≤ length old.watches → place < old.nears → length mid ≡ length old.watches → length new.watches + 1 ≡ length mid → new.nears ≡ old.nears - 1
     → SwappedAt old.watches mid place (old.nears - 1)
-    → ((d : Watch) → old.nears - 1 + 1 < length mid → get_or new.watches (old.nears - 1) d ≡ get_or mid (length mid - 1) d)
-    → ((k : ℕ) (d : Watch) → k ≢ old.nears - 1 → k + 1 < length mid → get_or new.watches k d ≡ get_or mid k d) → IsWithout old new place false
+    → ((d : Watched) → old.nears - 1 + 1 < length mid → get_or new.watches (old.nears - 1) d ≡ get_or mid (length mid - 1) d)
+    → ((k : ℕ) (d : Watched) → k ≢ old.nears - 1 → k + 1 < length mid → get_or new.watches k d ≡ get_or mid k d) → IsWithout old new place false
 without_near old new mid place in_it near kept size nears swapped filled stays =
     let last = old.nears - 1 in
     let end = length old.watches - 1 in
@@ -212,8 +212,8 @@ without_near old new mid place in_it near kept size nears swapped filled stays =
           (cases_eq k last);
     }
 
-pub before_near : (old new : Listed) (mid : List Watch) (place : ℕ) → old.nears ≤ length old.watches → place < old.nears → length mid ≡ length old.watches
-    → SwappedAt old.watches mid place (old.nears - 1) → ((k : ℕ) (d : Watch) → k ≢ old.nears - 1 → k + 1 < length mid → get_or new.watches k d ≡ get_or mid k d)
-    → (k : ℕ) (d : Watch) → k < place → get_or new.watches k d ≡ get_or old.watches k d
+pub before_near : (old new : Listed) (mid : List Watched) (place : ℕ) → old.nears ≤ length old.watches → place < old.nears → length mid ≡ length old.watches
+    → SwappedAt old.watches mid place (old.nears - 1) → ((k : ℕ) (d : Watched) → k ≢ old.nears - 1 → k + 1 < length mid → get_or new.watches k d ≡ get_or mid k d)
+    → (k : ℕ) (d : Watched) → k < place → get_or new.watches k d ≡ get_or old.watches k d
 before_near old new mid place in_it near kept swapped stays k d lt =
     stays k d (λ e. absurd (omega (arith, e, lt, near))) (omega (arith, lt, near, in_it, kept)) ∙ swapped.2 k d (λ e. absurd (omega (arith, e, lt))) (λ e. absurd (omega (arith, e, lt, near)))

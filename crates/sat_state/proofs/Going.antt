@@ -1,7 +1,7 @@
 -- The parts of a state, as propagation goes on.
-use Rattle.std.proofs.Common.{◌≡◌, ◌≢◌, ℕ, ◌+◌, ◌-◌, ◌*◌, ◌/◌, ◌<◌, ◌≤◌, Bool, true, false, is_none, Option, Some, None, List, [], ◌∷◌, ◌++◌, length, take, drop, get_or, set, filter, nat_le, All, Contains, refl, sym, ap, ◌∙◌, subst, inl, inr, ◌⊎◌, ⊎_elim, arith}
+use Rattle.std.proofs.Common.{◌≡◌, ◌≢◌, ℕ, ◌+◌, ◌-◌, ◌*◌, ◌/◌, ◌%◌, ◌<◌, ◌≤◌, Bool, true, false, is_none, Option, Some, None, List, [], ◌∷◌, ◌++◌, length, take, drop, get_or, set, filter, nat_le, All, Contains, refl, sym, ap, ◌∙◌, subst, inl, inr, ◌⊎◌, ⊎_elim, arith}
 use Rattle.std.proofs.lemmas.Bool.{cases_eq, true≢false, false≢true}
-use Rattle.std.proofs.lemmas.List.{take_all, take_at, take-append-le, drop-append-le, drop_all, drop_more, length_push, length-append, length-set, get_or-set_same, get_or-set_other, get_or-drop, length-drop}
+use Rattle.std.proofs.lemmas.List.{take_all, take_at, take-append-le, drop-append-le, drop_all, drop_more, length_push, length-append, length-set, get_or-set_same, get_or-set_other, get_or-drop, length-drop, get_or_default}
 use Rattle.std.proofs.lemmas.List.Elements.{All-nil, All-push, All-same, All-contains, All-weaker}
 use Rattle.cnf_core.specs.Literal.{Literal, negation, is_among, code_of, IsClause, VariablesUpTo}
 use Rattle.cnf_core.specs.Steps.{IsAtEnd, IsConsistent, HasTrueLiteral, HasTwoNotFalse}
@@ -10,7 +10,7 @@ use Rattle.sat_state.specs.Trail.{Entry, literals, level_of, next_level, trail_v
 use Rattle.sat_state.specs.Stored.{Stored, clause_at}
 use Rattle.sat_state.specs.Assigned.{TrailState}
 use Rattle.sat_state.specs.Watching.{no_lit, lit_at, far_at, listed_at, IsInSomeList, links, IsNext}
-use Rattle.sat_state.specs.declared.list.Watch.{Watch}
+use Rattle.sat_state.specs.Watched.{Watched}
 use Rattle.sat_state.specs.Listed.{Listed}
 use Rattle.sat_state.specs.View.{IsGuarded}
 use Rattle.sat_state.specs.Guards.{is_false, Guards, IsPair, ArePartners, AreWatched}
@@ -77,19 +77,20 @@ module _ (p : Parts) (j : AreJoined p) where
 
 -- what stands in the new lists stood in the old ones, or is of its clause too
 pub record StandsAs (clauses : List (List Literal)) (lits : List Literal) (old new : List Listed) : Type 0 where
-  pub each : (x : Watch) → IsInSomeList new x → IsInSomeList old x ⊎ IsOfClause clauses lits x
+  pub each : (x : Watched) → IsInSomeList new x → IsInSomeList old x ⊎ IsOfClause clauses lits x
 
 -- there is no less room in any list
 pub record HasRoomOf (old new : List Listed) : Type 0 where
   pub each : (c : ℕ) → (listed_at old c).room ≤ (listed_at new c).room
 
-of_clause_again : (old new : Parts) (x : Watch) → new.clauses.lists ≡ old.clauses.lists → length new.watches.lits ≡ length old.watches.lits → IsOfClause old.clauses.lists old.watches.lits x → IsOfClause new.clauses.lists new.watches.lits x
+of_clause_again : (old new : Parts) (x : Watched) → new.clauses.lists ≡ old.clauses.lists → length new.watches.lits ≡ length old.watches.lits → IsOfClause old.clauses.lists old.watches.lits x → IsOfClause new.clauses.lists new.watches.lits x
 of_clause_again old new x clauses size is = record {
   there = omega (arith, is.there, size);
+  two = λ pair. subst (λ (cs : List (List Literal)). length (clause_at cs (x.entry / 2)) ≡ 2) (sym clauses) (is.two pair);
   in_clause = subst (λ (cs : List (List Literal)). Contains (clause_at cs (x.entry / 2)) x.blocker) (sym clauses) is.in_clause;
 }
 
-blockers_again : (old new : Parts) → AreJoined old → new.clauses.lists ≡ old.clauses.lists → length new.watches.lits ≡ length old.watches.lits → StandsAs old.clauses.lists old.watches.lits old.watches.stands new.watches.stands → (x : Watch) → IsInSomeList new.watches.stands x → IsOfClause new.clauses.lists new.watches.lits x
+blockers_again : (old new : Parts) → AreJoined old → new.clauses.lists ≡ old.clauses.lists → length new.watches.lits ≡ length old.watches.lits → StandsAs old.clauses.lists old.watches.lits old.watches.stands new.watches.stands → (x : Watched) → IsInSomeList new.watches.stands x → IsOfClause new.clauses.lists new.watches.lits x
 blockers_again old new j clauses size stays_in x s =
     of_clause_again old new x clauses size
     (⊎_elim (λ (stood : IsInSomeList old.watches.stands x). j.blockers x stood) (λ (is : IsOfClause old.clauses.lists old.watches.lits x). is) (stays_in.each x s))
@@ -133,7 +134,7 @@ room_still old new same = record { each = λ c. omega (arith, ap (λ (ls : List 
 pub stands_alike : (clauses : List (List Literal)) (lits : List Literal) (old new : List Listed) → ((c : ℕ) → (listed_at new c).watches ≡ (listed_at old c).watches) → StandsAs clauses lits old new
 stands_alike clauses lits old new same = record {
   each = λ x s.
-      let stood : IsInSomeList old x = record { code = s.code; there = subst (λ (ws : List Watch). Contains ws x) (same s.code) s.there } in
+      let stood : IsInSomeList old x = record { code = s.code; there = subst (λ (ws : List Watched). Contains ws x) (same s.code) s.there } in
       inl stood;
 }
 
@@ -329,11 +330,26 @@ rest_of waiting e x is h ne =
 pub shorter_by_one : (waiting now : List ℕ) (e : ℕ) → waiting ≡ e ∷ drop 1 waiting → now ≡ drop 1 waiting → length now + 1 ≡ length waiting
 shorter_by_one waiting now e is same = omega (arith, ap length is, ap length same)
 
+-- of two literals of a clause that has no others, each is one of them
+one_of_two : (clause : List Literal) (a b l : Literal) → length clause ≡ 2 → Contains clause a → Contains clause b → a ≢ b → Contains clause l → l ≢ b → l ≡ a
+one_of_two clause a b l two (i, i_in, i_is) (k, k_in, k_is) apart (n, n_in, n_is) ne =
+    let i_apart : i ≢ k = λ same. apart (sym i_is ∙ get_or_default clause i a b i_in ∙ ap (λ (x : ℕ). get_or clause x b) same ∙ k_is) in
+    let n_apart : n ≢ k = λ same. ne (sym n_is ∙ get_or_default clause n l b n_in ∙ ap (λ (x : ℕ). get_or clause x b) same ∙ k_is) in
+    let same : n ≡ i = omega (arith, two, i_in, k_in, n_in, i_apart, n_apart) in
+    sym n_is ∙ get_or_default clause n l a n_in ∙ ap (λ (x : ℕ). get_or clause x a) same ∙ i_is
+
+-- the other entry of the clause of an entry
+abbrev other_of : ℕ → ℕ
+other_of e = e + 1 - 2 * (e % 2)
+
+other_partner : (e : ℕ) → ArePartners e (other_of e)
+other_partner e = record { clause = omega arith; apart = λ same. absurd (omega (arith, same)) }
+
 -- where two entries have one partner, they are one
 same_partner : (e f x : ℕ) → ArePartners e f → ArePartners x f → x ≡ e
 same_partner e f x p q = omega (arith, p.clause, q.clause, p.apart, q.apart)
 
-module _ (old : Parts) (j : AreJoined old) (w : IsWalking old) (v : Watch) (next : IsNext old.watches v) where
+module _ (old : Parts) (j : AreJoined old) (w : IsWalking old) (v : Watched) (next : IsNext old.watches v) where
   pub entry_clause : v.entry / 2 < length old.clauses.lists
   entry_clause = omega (arith, next.there, j.watched.entries)
 
@@ -350,6 +366,24 @@ module _ (old : Parts) (j : AreJoined old) (w : IsWalking old) (v : Watch) (next
       subst (λ (l : Literal). Contains (literals old.assigned.trail) l) w.walked
       (Rattle.sat_state.proofs.Guarded.literal_of_entry old.assigned.trail (get_or old.assigned.trail (place_in_queue old.queue old.watches.walks_far) some_entry)
       (Rattle.sat_state.proofs.Guarded.entry_at_place old.assigned.trail (place_in_queue old.queue old.watches.walks_far) some_entry w.more))
+
+  -- the literal that is walked is of the clause
+  walked_in : Contains (clause_at old.clauses.lists (v.entry / 2)) old.watches.walked
+  walked_in =
+      let e = v.entry in
+      let f = other_of e in
+      subst (λ (l : Literal). Contains (clause_at old.clauses.lists (e / 2)) l) next.walked (j.watched.pairs e f (other_partner e) next.there (entry_long w.some)).in_clause
+
+  -- where the clause has two literals, one that isn't false is what the clause gives
+  pub gives_pair : v.pair ≡ true → is_false (literals old.assigned.trail) v.blocker ≡ false → Gives (literals old.assigned.trail) (clause_at old.clauses.lists (v.entry / 2)) v.blocker
+  gives_pair pair not_false =
+      let trues = literals old.assigned.trail in
+      let clause = clause_at old.clauses.lists (v.entry / 2) in
+      let apart : old.watches.walked ≢ v.blocker = λ same. not_among trues (negation v.blocker) not_false (subst (λ (x : Literal). Contains trues (negation x)) same walked_false) in
+      record {
+        in_clause = blocker_in;
+        others_false = λ l h ne. subst (λ (x : Literal). Contains trues (negation x)) (sym (one_of_two clause old.watches.walked v.blocker l ((j.blockers v next.stands).two pair) walked_in blocker_in apart h ne)) walked_false;
+      }
 
   -- the entry is kept where its clause has a true literal
   pub walking_kept : (new : Parts) → HasTrueLiteral (literals new.assigned.trail) (clause_at old.clauses.lists (v.entry / 2)) → ((l : Literal) → Contains (literals old.assigned.trail) l → Contains (literals new.assigned.trail) l)
@@ -554,7 +588,7 @@ falsified_by trues clause one falsified none =
       | inr ne ↦ Contains-from_among trues (negation (get_or clause k d)) (none k d h ne)
     ]
 
-module _ (old : Parts) (j : AreJoined old) (w : IsWalking old) (v : Watch) (next : IsNext old.watches v) (f : ℕ) (p : ArePartners v.entry f) where
+module _ (old : Parts) (j : AreJoined old) (w : IsWalking old) (v : Watched) (next : IsNext old.watches v) (f : ℕ) (p : ArePartners v.entry f) where
   pub other_there : f < length old.watches.lits
   other_there = omega (arith, entry_clause old j w v next, p.clause, j.watched.entries)
 
@@ -568,15 +602,15 @@ module _ (old : Parts) (j : AreJoined old) (w : IsWalking old) (v : Watch) (next
   other_var = var_some old j (v.entry / 2) (lit_at old.watches.lits f) (entry_clause old j w v next) other_pair.in_clause
 
   -- so is the entry beside the other literal
-  pub beside_other : (x : Watch) → x ≡ record { entry = v.entry; blocker = lit_at old.watches.lits f } → IsOfClause old.clauses.lists old.watches.lits x
-  beside_other x is = subst (IsOfClause old.clauses.lists old.watches.lits) (sym is) (record { there = next.there; in_clause = other_pair.in_clause })
+  pub beside_other : (x : Watched) → x ≡ record { entry = v.entry; pair = false; blocker = lit_at old.watches.lits f } → IsOfClause old.clauses.lists old.watches.lits x
+  beside_other x is = subst (IsOfClause old.clauses.lists old.watches.lits) (sym is) (record { there = next.there; two = λ e. absurd (false≢true e); in_clause = other_pair.in_clause })
 
   pub open_not_walked : (l : Literal) → is_false (literals old.assigned.trail) l ≡ false → l ≢ old.watches.walked
   open_not_walked l not_false same =
       not_among (literals old.assigned.trail) (negation l) not_false (subst (λ (x : Literal). Contains (literals old.assigned.trail) (negation x)) (sym same) (walked_false old j w v next))
 
 -- where the entry moves, there is room in the list of the literal
-module _ (old : Parts) (j : AreJoined old) (w : IsWalking old) (v : Watch) (next : IsNext old.watches v) (l : Literal) (lg : 2 ≤ length (clause_at old.clauses.lists (v.entry / 2))) (in_clause : Contains (clause_at old.clauses.lists (v.entry / 2)) l)
+module _ (old : Parts) (j : AreJoined old) (w : IsWalking old) (v : Watched) (next : IsNext old.watches v) (l : Literal) (lg : 2 ≤ length (clause_at old.clauses.lists (v.entry / 2))) (in_clause : Contains (clause_at old.clauses.lists (v.entry / 2)) l)
     (not_false : is_false (literals old.assigned.trail) l ≡ false) (f : ℕ) (p : ArePartners v.entry f) (not_other : l ≢ lit_at old.watches.lits f) where
   abbrev without : List Literal
   without = set old.watches.lits v.entry no_lit

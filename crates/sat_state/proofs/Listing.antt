@@ -4,7 +4,7 @@ use Rattle.std.proofs.lemmas.Bool.{cases_eq, ne_eqb, eq-eqb}
 use Rattle.std.proofs.lemmas.List.{get_or_default, get_or-set_same, get_or-set_other, get_or_append_left, get_or_push, length-set, length_push}
 use Rattle.std.proofs.lemmas.List.Sums.{sum_by-cons, sum_by_push, sum_by-set, count_by-le-length}
 use Rattle.cnf_core.specs.Literal.{Literal, code_of}
-use Rattle.sat_state.specs.declared.list.Watch.{Watch}
+use Rattle.sat_state.specs.Watched.{Watched}
 use Rattle.sat_state.specs.Listed.{Listed, IsWithout}
 use Rattle.sat_state.specs.Watching.{listed_at, links}
 use Rattle.sat_state.specs.WatchesInside.{literal_named, no_watch, watch_in, IsListOf, AreListsByCode}
@@ -80,7 +80,7 @@ listed_set names lists code l listed known is = record {
 }
 
 -- an entry without a name more
-pub listed_push : (names : List ℕ) (lists : List Listed) → AreListsByCode names lists → length names + 2 < 2 ^ 32 → AreListsByCode (names ++ 0 ∷ []) lists
+pub listed_push : (names : List ℕ) (lists : List Listed) → AreListsByCode names lists → length names + 2 < 2 ^ 31 → AreListsByCode (names ++ 0 ∷ []) lists
 listed_push names lists listed fits =
     let size = length_push names 0 in
     record {
@@ -152,7 +152,7 @@ module _ (names : List ℕ) (code e place : ℕ) (far : Bool) (old new : Listed)
   pub list_out : 2 ≤ code → IsListOf (set names e 0) code new
   list_out some =
       let size = length-set names e 0 in
-      let entry : (k : ℕ) → k < length new.watches → (watch_in new k).entry ≡ (watch_in old (w.from k)).entry = λ k lt. ap (λ (x : Watch). x.entry) (w.same k no_watch lt) in
+      let entry : (k : ℕ) → k < length new.watches → (watch_in new k).entry ≡ (watch_in old (w.from k)).entry = λ k lt. ap (λ (x : Watched). x.entry) (w.same k no_watch lt) in
       record {
         held = λ k lt.
             let h = l.held (w.from k) (w.within k lt) in
@@ -225,7 +225,7 @@ module _ (names : List ℕ) (code e place : ℕ) (far : Bool) (old new : Listed)
   in_entry : (k : ℕ) → k < length new.watches → k ≢ place → (w.to k < length old.watches) × ((watch_in new k).entry ≡ (watch_in old (w.to k)).entry)
   in_entry k lt ne =
       let b = w.back k lt ne in
-      (b.0, ap (λ (y : ℕ). (watch_in new y).entry) (sym b.1) ∙ ap (λ (x : Watch). x.entry) (sym (w.same (w.to k) no_watch b.0)))
+      (b.0, ap (λ (y : ℕ). (watch_in new y).entry) (sym b.1) ∙ ap (λ (x : Watched). x.entry) (sym (w.same (w.to k) no_watch b.0)))
 
   in_other : (k : ℕ) → k < length old.watches → (watch_in old k).entry ≢ e
   in_other k lt same = was (ap (λ (x : ℕ). get_or names x 0 / 2) (sym same) ∙ held_code names code old k l lt)
@@ -276,7 +276,7 @@ module _ (names : List ℕ) (code e place : ℕ) (far : Bool) (old new : Listed)
             (λ (same : x ≡ e). record { place = place; there = w.there; is = is ∙ sym same })
             (λ (ne : x ≢ e).
             let p = l.complete x (omega (arith, lt, size)) (ap (λ (n : ℕ). n / 2) (sym (get_or-set_other names e x in_name 0 ne)) ∙ at) two in
-            record { place = w.from p.place; there = w.within p.place p.there; is = sym (ap (λ (y : Watch). y.entry) (w.same p.place no_watch p.there)) ∙ p.is })
+            record { place = w.from p.place; there = w.within p.place p.there; is = sym (ap (λ (y : Watched). y.entry) (w.same p.place no_watch p.there)) ∙ p.is })
             (cases_eq x e);
         total = λ two. omega (arith, l.total two, w.size, counted names code e in_name there, weight_other code (get_or names e 0) was, weight_same code in_name in_code);
       }
@@ -336,26 +336,26 @@ pub list_short : (names : List ℕ) (code : ℕ) (list : Listed) (k : ℕ) → I
 list_short names code list k l lt = omega (arith, l.total (l.held k lt).some, count_by-le-length (λ n. eqb (n / 2) code) names)
 
 -- another literal is put beside the entry at a place
-blocked_entry : (watches : List Watch) (place k : ℕ) (blocker : Literal) → place < length watches
-    → (get_or (set watches place (record (get_or watches place no_watch) { blocker = blocker })) k no_watch).entry ≡ (get_or watches k no_watch).entry
+blocked_entry : (watches : List Watched) (place k : ℕ) (blocker : Literal) → place < length watches
+    → (get_or (set watches place (record { entry = (get_or watches place no_watch).entry; pair = false; blocker = blocker })) k no_watch).entry ≡ (get_or watches k no_watch).entry
 blocked_entry watches place k blocker lt =
-    let x : Watch = record (get_or watches place no_watch) { blocker = blocker } in
+    let x : Watched = record { entry = (get_or watches place no_watch).entry; pair = false; blocker = blocker } in
     ⊎_elim
     (λ (same : k ≡ place).
-    ap (λ (y : ℕ). (get_or (set watches place x) y no_watch).entry) same ∙ ap (λ (w : Watch). w.entry) (get_or-set_same watches place x no_watch lt)
+    ap (λ (y : ℕ). (get_or (set watches place x) y no_watch).entry) same ∙ ap (λ (w : Watched). w.entry) (get_or-set_same watches place x no_watch lt)
     ∙ ap (λ (y : ℕ). (get_or watches y no_watch).entry) (sym same))
-    (λ (ne : k ≢ place). ap (λ (w : Watch). w.entry) (get_or-set_other watches place k x no_watch ne))
+    (λ (ne : k ≢ place). ap (λ (w : Watched). w.entry) (get_or-set_other watches place k x no_watch ne))
     (cases_eq k place)
 
-pub entry_blocked : (watches now : List Watch) (place : ℕ) (blocker : Literal) → place < length watches → now ≡ set watches place (record (get_or watches place no_watch) { blocker = blocker })
+pub entry_blocked : (watches now : List Watched) (place : ℕ) (blocker : Literal) → place < length watches → now ≡ set watches place (record { entry = (get_or watches place no_watch).entry; pair = false; blocker = blocker })
     → (k : ℕ) → (get_or now k no_watch).entry ≡ (get_or watches k no_watch).entry
-entry_blocked watches now place blocker lt is k = ap (λ (ws : List Watch). (get_or ws k no_watch).entry) is ∙ blocked_entry watches place k blocker lt
+entry_blocked watches now place blocker lt is k = ap (λ (ws : List Watched). (get_or ws k no_watch).entry) is ∙ blocked_entry watches place k blocker lt
 
-pub stood_blocked : (watches now : List Watch) (place : ℕ) (blocker : Literal) (w : Watch) → place < length watches → now ≡ set watches place (record (get_or watches place no_watch) { blocker = blocker })
-    → Contains now w → Contains watches w ⊎ (w ≡ record { entry = (get_or watches place no_watch).entry; blocker = blocker })
+pub stood_blocked : (watches now : List Watched) (place : ℕ) (blocker : Literal) (w : Watched) → place < length watches → now ≡ set watches place (record { entry = (get_or watches place no_watch).entry; pair = false; blocker = blocker })
+    → Contains now w → Contains watches w ⊎ (w ≡ record { entry = (get_or watches place no_watch).entry; pair = false; blocker = blocker })
 stood_blocked watches now place blocker w there is (k, lt, at) =
-    let x : Watch = record (get_or watches place no_watch) { blocker = blocker } in
-    let in_set : get_or (set watches place x) k w ≡ w = ap (λ (ws : List Watch). get_or ws k w) (sym is) ∙ at in
+    let x : Watched = record { entry = (get_or watches place no_watch).entry; pair = false; blocker = blocker } in
+    let in_set : get_or (set watches place x) k w ≡ w = ap (λ (ws : List Watched). get_or ws k w) (sym is) ∙ at in
     ⊎_elim
     (λ (same : k ≡ place). inr (sym in_set ∙ ap (λ (y : ℕ). get_or (set watches place x) y w) same ∙ get_or-set_same watches place x w there))
     (λ (ne : k ≢ place).

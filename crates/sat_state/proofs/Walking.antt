@@ -5,7 +5,7 @@ use Rattle.std.proofs.lemmas.Bool.Decides.{nat_tests}
 use Rattle.std.proofs.lemmas.List.{get_or_default, length-map, length-set, map-set}
 use Rattle.cnf_core.specs.Literal.{Literal, code_of}
 use Rattle.cnf_core.proofs.Members.{Contains-here, Contains-there}
-use Rattle.sat_state.specs.declared.list.Watch.{Watch}
+use Rattle.sat_state.specs.Watched.{Watched}
 use Rattle.sat_state.specs.declared.watches.Watches.TheInside.{Inside}
 use Rattle.sat_state.specs.Listed.{Listed, IsWithout}
 use Rattle.sat_state.specs.Watching.{Watching, no_lit, lit_at, far_at, listed_at, IsInSomeList, links, IsNext}
@@ -41,23 +41,27 @@ far_of_name n code far is = ap is_far_name is ∙ name_far code far
 
 -- ---- what is walked
 
-pub entries_same : (old new : List Watch) (low n : ℕ) → ((k : ℕ) → k < low + n → (get_or new k no_watch).entry ≡ (get_or old k no_watch).entry) → entries_from new low n ≡ entries_from old low n
+-- a watch is what it says
+pub watch_of : (w : Watched) (entry : ℕ) (pair : Bool) (blocker : Literal) → entry ≡ w.entry → pair ≡ w.pair → blocker ≡ w.blocker → record { entry = entry; pair = pair; blocker = blocker } ≡ w
+watch_of w entry pair blocker e p b = rw (e, p, b) refl
+
+pub entries_same : (old new : List Watched) (low n : ℕ) → ((k : ℕ) → k < low + n → (get_or new k no_watch).entry ≡ (get_or old k no_watch).entry) → entries_from new low n ≡ entries_from old low n
 entries_same old new low zero same = refl
 entries_same old new low (suc n) same =
     ap (λ (e : ℕ). e ∷ entries_from new low n) (same (low + n) (omega arith))
     ∙ ap (λ (es : List ℕ). (get_or old (low + n) no_watch).entry ∷ es) (entries_same old new low n (λ k lt. same k (omega (arith, lt))))
 
-pub length-entries : (watches : List Watch) (low n : ℕ) → length (entries_from watches low n) ≡ n
+pub length-entries : (watches : List Watched) (low n : ℕ) → length (entries_from watches low n) ≡ n
 length-entries watches low zero = refl
 length-entries watches low (suc n) = ap suc (length-entries watches low n)
 
-pub entries_first : (watches : List Watch) (low n : ℕ) → 0 < n → entries_from watches low n ≡ (get_or watches (low + (n - 1)) no_watch).entry ∷ entries_from watches low (n - 1)
+pub entries_first : (watches : List Watched) (low n : ℕ) → 0 < n → entries_from watches low n ≡ (get_or watches (low + (n - 1)) no_watch).entry ∷ entries_from watches low (n - 1)
 entries_first watches low zero some = absurd (omega (arith, some))
 entries_first watches low (suc n) some =
     let same : n ≡ suc n - 1 = omega arith in
     ap (λ (m : ℕ). (get_or watches (low + m) no_watch).entry ∷ entries_from watches low m) same
 
-pub entries_have : (watches : List Watch) (low n k e : ℕ) → low ≤ k → k < low + n → (get_or watches k no_watch).entry ≡ e → Contains (entries_from watches low n) e
+pub entries_have : (watches : List Watched) (low n k e : ℕ) → low ≤ k → k < low + n → (get_or watches k no_watch).entry ≡ e → Contains (entries_from watches low n) e
 entries_have watches low zero k e ge lt is = absurd (omega (arith, ge, lt))
 entries_have watches low (suc n) k e ge lt is =
     let first = (get_or watches (low + n) no_watch).entry in
@@ -194,7 +198,7 @@ walks_out old walked low left place far new w some is out =
     within_by false nears le = omega (arith, le, nears, some)
 
 -- what stands in lists of which one was set
-pub stands_set : (lists : List Listed) (code : ℕ) (new : Listed) (w : Watch) → code < length lists → IsInSomeList (set lists code new) w → Contains new.watches w ⊎ IsInSomeList lists w
+pub stands_set : (lists : List Listed) (code : ℕ) (new : Listed) (w : Watched) → code < length lists → IsInSomeList (set lists code new) w → Contains new.watches w ⊎ IsInSomeList lists w
 stands_set lists code new w known s = ⊎_elim
     (λ (same : s.code ≡ code). inl (subst (λ (l : Listed). Contains l.watches w) (ap (listed_at (set lists code new)) same ∙ at_same lists code new known) s.there))
     (λ (ne : s.code ≢ code).
@@ -203,11 +207,11 @@ stands_set lists code new w known s = ⊎_elim
     (cases_eq s.code code)
 
 -- what stands in a list without one stood in it
-pub stood : (old new : Listed) (place : ℕ) (far : Bool) (w : Watch) → IsWithout old new place far → Contains new.watches w → Contains old.watches w
+pub stood : (old new : Listed) (place : ℕ) (far : Bool) (w : Watched) → IsWithout old new place far → Contains new.watches w → Contains old.watches w
 stood old new place far w out (k, lt, is) = (out.from k, out.within k lt, sym (out.same k w lt) ∙ is)
 
 -- what stands in a list with one more is that one, or stood in it
-pub stood_or : (old new : Listed) (place : ℕ) (far : Bool) (w x : Watch) → IsWithout new old place far → ((d : Watch) → get_or new.watches place d ≡ x) → Contains new.watches w → Contains old.watches w ⊎ (w ≡ x)
+pub stood_or : (old new : Listed) (place : ℕ) (far : Bool) (w x : Watched) → IsWithout new old place far → ((d : Watched) → get_or new.watches place d ≡ x) → Contains new.watches w → Contains old.watches w ⊎ (w ≡ x)
 stood_or old new place far w x into there (k, lt, is) = ⊎_elim
     (λ (same : k ≡ place). inr (sym is ∙ ap (λ (y : ℕ). get_or new.watches y w) same ∙ there w))
     (λ (ne : k ≢ place).
@@ -285,13 +289,13 @@ module _ (a : Inside) (now : Watching) (is : seen_watches a ≡ now) (inv : AreW
 -- ---- the next one goes out
 
 -- what was read of the list that is walked is what stands there
-pub read_next : (a : Inside) (now : Watching) (is : seen_watches a ≡ now) (inv : AreWatches a) (some : 0 < a.left) (cell : Listed) (x : Watch) → cell ≡ get_or a.lists.items (a.walked / 2) cell
+pub read_next : (a : Inside) (now : Watching) (is : seen_watches a ≡ now) (inv : AreWatches a) (some : 0 < a.left) (cell : Listed) (x : Watched) → cell ≡ get_or a.lists.items (a.walked / 2) cell
     → x ≡ get_or cell.watches (a.low + (a.left - 1)) x → x.entry ≡ (watch_in (listed_at a.lists.items (a.walked / 2)) (a.low + (a.left - 1))).entry
 read_next a now is inv some cell x of at =
     let list = listed_at a.lists.items (a.walked / 2) in
     let place = a.low + (a.left - 1) in
     let read : cell ≡ list = of ∙ get_or_default a.lists.items (a.walked / 2) cell no_list (walk_known a now is inv some) in
-    ap (λ (w : Watch). w.entry) (at ∙ ap (λ (l : Listed). get_or l.watches place x) read ∙ get_or_default list.watches place x no_watch (next_in a now is inv some))
+    ap (λ (w : Watched). w.entry) (at ∙ ap (λ (l : Listed). get_or l.watches place x) read ∙ get_or_default list.watches place x no_watch (next_in a now is inv some))
 
 pub low_far : (lists : List Listed) (walked low left : ℕ) → Walks lists walked low left → is_far_name walked ≡ true → (listed_at lists (walked / 2)).nears ≤ low
 low_far lists walked low left w far = omega (arith, subst (λ (b : Bool). low ≡ begin_of (listed_at lists (walked / 2)) b) far w.begins)
@@ -321,7 +325,7 @@ module _ (a : Inside) (now : Watching) (is : seen_watches a ≡ now) (inv : AreW
   pub taken : IsWithout from_list new (a.low + (a.left - 1)) far
   taken = subst (λ (l : Listed). IsWithout l new (a.low + (a.left - 1)) far) read w
 
-  pub taken_stands : (x : Watch) → IsInSomeList (set a.lists.items (a.walked / 2) new) x → IsInSomeList now.stands x
+  pub taken_stands : (x : Watched) → IsInSomeList (set a.lists.items (a.walked / 2) new) x → IsInSomeList now.stands x
   taken_stands x s =
       subst (λ (ls : List Listed). IsInSomeList ls x) (stands_seen a now is)
       (⊎_elim
@@ -331,12 +335,12 @@ module _ (a : Inside) (now : Watching) (is : seen_watches a ≡ now) (inv : AreW
       (λ (was : IsInSomeList a.lists.items x). was)
       (stands_set a.lists.items (a.walked / 2) new x (walk_known a now is inv some) s))
 
-  pub taken_waiting : ((k : ℕ) (d : Watch) → k < a.low + (a.left - 1) → get_or new.watches k d ≡ get_or cell.watches k d)
+  pub taken_waiting : ((k : ℕ) (d : Watched) → k < a.low + (a.left - 1) → get_or new.watches k d ≡ get_or cell.watches k d)
       → entries_from (listed_at (set a.lists.items (a.walked / 2) new) (a.walked / 2)).watches a.low (a.left - 1) ≡ drop 1 now.waiting
   taken_waiting before =
       entries_same from_list.watches (listed_at (set a.lists.items (a.walked / 2) new) (a.walked / 2)).watches a.low (a.left - 1)
       (λ k lt. ap (λ (l : Listed). (get_or l.watches k no_watch).entry) (at_same a.lists.items (a.walked / 2) new (walk_known a now is inv some))
-      ∙ ap (λ (x : Watch). x.entry) (before k no_watch lt)
+      ∙ ap (λ (x : Watched). x.entry) (before k no_watch lt)
       ∙ ap (λ (l : Listed). (get_or l.watches k no_watch).entry) read)
       ∙ rest_seen a now is inv some
 
@@ -359,12 +363,12 @@ module _ (a : Inside) (now : Watching) (is : seen_watches a ≡ now) (inv : AreW
         ap (λ (ls : List Listed). (listed_at ls code).room) (stands_seen a now is),
       )
 
-  module _ (e name place : ℕ) (far : Bool) (cell new : Listed) (x : Watch) (read : cell ≡ listed_at a.lists.items code) (into : IsWithout new cell place far) (there : (d : Watch) → get_or new.watches place d ≡ x)
+  module _ (e name place : ℕ) (far : Bool) (cell new : Listed) (x : Watched) (read : cell ≡ listed_at a.lists.items code) (into : IsWithout new cell place far) (there : (d : Watched) → get_or new.watches place d ≡ x)
       (named : name ≡ 2 * code + cond far 1 0) where
     pub linked_in : x.entry ≡ e → e < length now.lits → lit_at now.lits e ≡ no_lit → ◌≡◌ {A = ℕ} (cond (Rattle.std.proofs.Common.ltb place new.nears) 0 1) (cond far 1 0) → AreListsByCode (set a.names.items e name) (set a.lists.items code new)
     linked_in entry lt none side =
         subst (λ (n : ℕ). AreListsByCode (set a.names.items e n) (set a.lists.items code new)) (sym named)
-        (listed_in a.names.items a.lists.items code e place far new inv.listed code_known (subst (λ (l : Listed). IsWithout new l place far) read into) (ap (λ (w : Watch). w.entry) (there no_watch) ∙ entry)
+        (listed_in a.names.items a.lists.items code e place far new inv.listed code_known (subst (λ (l : Listed). IsWithout new l place far) read into) (ap (λ (w : Watched). w.entry) (there no_watch) ∙ entry)
         (omega (arith, lt, length_seen a now is)) two (code_seen a now is e no_lit none) side)
 
     pub linked_walk : (now.waiting ≡ []) ⊎ (lit ≢ now.walked) → 0 < a.left → Walks (set a.lists.items code new) a.walked a.low a.left
@@ -373,7 +377,7 @@ module _ (a : Inside) (now : Watching) (is : seen_watches a ≡ now) (inv : AreW
         let at : listed_at (set a.lists.items code new) (a.walked / 2) ≡ listed_at a.lists.items (a.walked / 2) = at_other a.lists.items code (a.walked / 2) new ne in
         walks_as a.lists.items (set a.lists.items code new) a.walked a.low a.left (inv.walk more) (length-set a.lists.items code new) (ap (λ (l : Listed). l.nears) at) (ap (λ (l : Listed). length l.watches) at)
 
-    pub linked_stands : (w : Watch) → IsInSomeList (set a.lists.items code new) w → IsInSomeList now.stands w ⊎ (w ≡ x)
+    pub linked_stands : (w : Watched) → IsInSomeList (set a.lists.items code new) w → IsInSomeList now.stands w ⊎ (w ≡ x)
     linked_stands w s = ⊎_elim
         (λ (in_it : Contains new.watches w). ⊎_elim
         (λ (before : Contains cell.watches w).
@@ -399,7 +403,7 @@ module _ (a : Inside) (now : Watching) (is : seen_watches a ≡ now) (inv : AreW
 -- ---- another literal is put beside the next one
 
 module _ (a : Inside) (now : Watching) (is : seen_watches a ≡ now) (inv : AreWatches a) (some : 0 < a.left) (cell new : Listed) (blocker : Literal) (of : cell ≡ get_or a.lists.items (a.walked / 2) cell)
-    (changed : (d : Watch) → new.watches ≡ set cell.watches (a.low + (a.left - 1)) (record (get_or cell.watches (a.low + (a.left - 1)) d) { blocker = blocker })) (stay : new.nears ≡ cell.nears) where
+    (changed : (d : Watched) → new.watches ≡ set cell.watches (a.low + (a.left - 1)) (record { entry = (get_or cell.watches (a.low + (a.left - 1)) d).entry; pair = false; blocker = blocker })) (stay : new.nears ≡ cell.nears) where
   abbrev its_list : Listed
   its_list = listed_at a.lists.items (a.walked / 2)
 
@@ -409,11 +413,11 @@ module _ (a : Inside) (now : Watching) (is : seen_watches a ≡ now) (inv : AreW
   its_read : cell ≡ its_list
   its_read = list_read a.lists.items (a.walked / 2) cell (walk_known a now is inv some) of
 
-  pub blocked_watches : new.watches ≡ set its_list.watches its_place (record (watch_in its_list its_place) { blocker = blocker })
-  blocked_watches = changed no_watch ∙ ap (λ (l : Listed). set l.watches its_place (record (get_or l.watches its_place no_watch) { blocker = blocker })) its_read
+  pub blocked_watches : new.watches ≡ set its_list.watches its_place (record { entry = (watch_in its_list its_place).entry; pair = false; blocker = blocker })
+  blocked_watches = changed no_watch ∙ ap (λ (l : Listed). set l.watches its_place (record { entry = (get_or l.watches its_place no_watch).entry; pair = false; blocker = blocker })) its_read
 
   pub blocked_nears : new.nears ≡ its_list.nears
   blocked_nears = stay ∙ ap (λ (l : Listed). l.nears) its_read
 
   pub blocked_length : length new.watches ≡ length its_list.watches
-  blocked_length = ap length blocked_watches ∙ length-set its_list.watches its_place (record (watch_in its_list its_place) { blocker = blocker })
+  blocked_length = ap length blocked_watches ∙ length-set its_list.watches its_place (record { entry = (watch_in its_list its_place).entry; pair = false; blocker = blocker })

@@ -1,12 +1,12 @@
 -- The clauses with their watched literals, and the trail, together.
-use Rattle.std.specs.Prelude.{Bool, if◌then◌else◌, ◌≡◌, ◌≢◌, ℕ, ◌+◌, ◌*◌, ◌/◌, ◌<◌, ◌≤◌, ◌==◌, List, length, take, drop, count_by, slice_index_or, None, All, Contains, ◌⊎◌}
+use Rattle.std.specs.Prelude.{Bool, true, if◌then◌else◌, ◌≡◌, ◌≢◌, ℕ, ◌+◌, ◌*◌, ◌/◌, ◌<◌, ◌≤◌, ◌==◌, List, length, take, drop, count_by, slice_index_or, None, All, Contains, ◌⊎◌}
 use Rattle.std.specs.List.{list_any}
 use Rattle.cnf_core.specs.Literal.{Literal, negation, code_of, IsClause, VariablesUpTo}
 use Rattle.sat_state.specs.Trail.{Entry, literals, level_of, IsGrounded}
 use Rattle.cnf_core.specs.Steps.{HasTrueLiteral}
 use Rattle.sat_state.specs.Stored.{clause_at}
 use Rattle.sat_state.specs.Watching.{no_lit, lit_at, far_at, listed_at, IsInSomeList}
-use Rattle.sat_state.specs.declared.list.Watch.{Watch}
+use Rattle.sat_state.specs.Watched.{Watched}
 use Rattle.sat_state.specs.Guards.{AreWatched}
 use Rattle.sat_state.specs.declared.parts.Queue.{Queue}
 use Rattle.sat_state.specs.declared.parts.Parts.{Parts}
@@ -27,9 +27,10 @@ has_code clause code = list_any (λ l. code_of l == code) clause
 abbrev pub uses : List (List Literal) → ℕ → ℕ
 uses clauses code = count_by (λ clause. has_code clause code) clauses
 
--- an entry with some literal of its clause
-pub record IsOfClause (clauses : List (List Literal)) (lits : List Literal) (watch : Watch) : Type 0 where
+-- an entry with some literal of its clause, which has two where that is said
+pub record IsOfClause (clauses : List (List Literal)) (lits : List Literal) (watch : Watched) : Type 0 where
   pub there : watch.entry < length lits
+  pub two : watch.pair ≡ true → length (clause_at clauses (watch.entry / 2)) ≡ 2
   pub in_clause : Contains (clause_at clauses (watch.entry / 2)) watch.blocker
 
 -- Each entry stands on those before it, what is left of the trail to look at is of its level, and the clauses are watched. The
@@ -43,7 +44,7 @@ pub record AreJoined (p : Parts) : Type 0 where
   pub present : (far : Bool) → All (λ e. e.level ≡ level_of p.assigned.trail) (drop (place_in_queue p.queue far) p.assigned.trail)
   pub fars : length p.watches.fars ≡ length p.watches.lits
   pub lists : 2 * p.assigned.vars + 2 ≤ p.watches.lists
-  pub blockers : (w : Watch) → IsInSomeList p.watches.stands w → IsOfClause p.clauses.lists p.watches.lits w
+  pub blockers : (w : Watched) → IsInSomeList p.watches.stands w → IsOfClause p.clauses.lists p.watches.lits w
   pub rooms : (code : ℕ) → uses p.clauses.lists code ≤ (listed_at p.watches.stands code).room
   pub in_range : All (VariablesUpTo p.assigned.vars) p.clauses.lists
   pub clauses : All IsClause p.clauses.lists

@@ -3,6 +3,7 @@ pub mod View
 pub mod Assigned
 pub mod SlotInside
 pub mod AssignmentInside
+pub mod Watched
 pub mod Listed
 pub mod ListInside
 pub mod Watching

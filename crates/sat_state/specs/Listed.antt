@@ -1,10 +1,10 @@
 -- The clauses that watch a literal, as callers see them.
 use Rattle.std.specs.Prelude.{◌≡◌, ◌≢◌, ℕ, ◌+◌, ◌<◌, Bool, nat_lt, if◌then◌else◌, List, length, slice_index_or}
-use Rattle.sat_state.specs.declared.list.Watch.{Watch}
+use Rattle.sat_state.specs.Watched.{Watched}
 
 -- what stands in the list, how many of these are near, which come first, and for how many there is room
 pub record Listed : Type 0 where
-  pub watches : List Watch
+  pub watches : List Watched
   pub nears : ℕ
   pub room : ℕ
 
@@ -18,6 +18,6 @@ pub record IsWithout (whole rest : Listed) (place : ℕ) (far : Bool) : Type 0 w
   pub within : (k : ℕ) → k < length rest.watches → from k < length whole.watches
   pub other : (k : ℕ) → k < length rest.watches → from k ≢ place
   pub side : (k : ℕ) → k < length rest.watches → nat_lt (from k) whole.nears ≡ nat_lt k rest.nears
-  pub same : (k : ℕ) (d : Watch) → k < length rest.watches → slice_index_or rest.watches k d ≡ slice_index_or whole.watches (from k) d
+  pub same : (k : ℕ) (d : Watched) → k < length rest.watches → slice_index_or rest.watches k d ≡ slice_index_or whole.watches (from k) d
   pub back : (k : ℕ) → k < length whole.watches → k ≢ place → (to k < length rest.watches) × (from (to k) ≡ k)
   pub again : (k : ℕ) → k < length rest.watches → to (from k) ≡ k

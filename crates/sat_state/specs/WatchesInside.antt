@@ -1,10 +1,10 @@
 -- How watched literals are kept: a list for each literal.
-use Rattle.std.specs.Prelude.{◌≡◌, ◌<◌, ◌≤◌, ◌+◌, ◌-◌, ◌*◌, ◌/◌, ◌%◌, ◌^◌, ◌==◌, ℕ, Bool, nat_lt, if◌then◌else◌, List, [], ◌∷◌, map, length, count_by, slice_index_or, vec_capacity}
+use Rattle.std.specs.Prelude.{◌≡◌, ◌<◌, ◌≤◌, ◌+◌, ◌-◌, ◌*◌, ◌/◌, ◌%◌, ◌^◌, ◌==◌, ℕ, Bool, false, nat_lt, if◌then◌else◌, List, [], ◌∷◌, map, length, count_by, slice_index_or, vec_capacity}
 use Rattle.std.proofs.Common.{zero, suc}
 use Rattle.cnf_core.specs.Literal.{Literal}
 use Rattle.sat_state.specs.Listed.{Listed}
 use Rattle.sat_state.specs.Watching.{Watching, no_lit, listed_at}
-use Rattle.sat_state.specs.declared.list.Watch.{Watch}
+use Rattle.sat_state.specs.Watched.{Watched}
 use Rattle.sat_state.specs.declared.watches.Watches.TheInside.{Inside}
 
 -- the literal of a code
@@ -23,11 +23,11 @@ literal_named name = literal_at (name / 2)
 abbrev pub is_far_name : ℕ → Bool
 is_far_name name = name % 2 == 1
 
-abbrev pub no_watch : Watch
-no_watch = record { entry = 0; blocker = no_lit }
+abbrev pub no_watch : Watched
+no_watch = record { entry = 0; pair = false; blocker = no_lit }
 
 -- what stands at a place of a list
-abbrev pub watch_in : Listed → ℕ → Watch
+abbrev pub watch_in : Listed → ℕ → Watched
 watch_in list place = slice_index_or list.watches place no_watch
 
 -- at a place of the list of a code there is an entry whose name is that of its part
@@ -51,7 +51,7 @@ pub record IsListOf (names : List ℕ) (code : ℕ) (list : Listed) : Type 0 whe
 
 -- each list is that of its code, and the numbers fit their words
 pub record AreListsByCode (names : List ℕ) (lists : List Listed) : Type 0 where
-  pub few : length names + 1 < 2 ^ 32
+  pub few : length names + 1 < 2 ^ 31
   pub few_lists : 2 * length lists < 2 ^ 32
   pub each : (code : ℕ) → IsListOf names code (listed_at lists code)
 
@@ -70,7 +70,7 @@ pub record Walks (lists : List Listed) (walked low left : ℕ) : Type 0 where
   pub whole : low + left ≤ length (listed_at lists (walked / 2)).watches
 
 -- so many entries from a place on, the last one first
-abbrev pub entries_from : List Watch → ℕ → ℕ → List ℕ
+abbrev pub entries_from : List Watched → ℕ → ℕ → List ℕ
 entries_from watches low zero = []
 entries_from watches low (suc n) = (slice_index_or watches (low + n) no_watch).entry ∷ entries_from watches low n
 

@@ -2,7 +2,7 @@
 use Rattle.std.specs.Prelude.{◌≡◌, ◌<◌, ◌==◌, ℕ, Bool, true, false, List, [], ◌∷◌, length, drop, count_by, slice_index_or, Contains}
 use Rattle.cnf_core.specs.Literal.{Literal, code_of}
 use Rattle.sat_state.specs.Listed.{Listed}
-use Rattle.sat_state.specs.declared.list.Watch.{Watch}
+use Rattle.sat_state.specs.Watched.{Watched}
 
 -- the literal that stands for none
 abbrev pub no_lit : Literal
@@ -34,7 +34,7 @@ abbrev pub listed_at : List Listed → ℕ → Listed
 listed_at stands code = slice_index_or stands code (record { watches = []; nears = 0; room = 0 })
 
 -- it stands in one of the lists
-pub record IsInSomeList (stands : List Listed) (watch : Watch) : Type 0 where
+pub record IsInSomeList (stands : List Listed) (watch : Watched) : Type 0 where
   pub code : ℕ
   pub there : Contains (listed_at stands code).watches watch
 
@@ -43,8 +43,14 @@ abbrev pub links : List Literal → ℕ → ℕ
 links lits code = count_by (λ l. code_of l == code) lits
 
 -- the watch is the next of those that weren't looked at
-pub record IsNext (w : Watching) (watch : Watch) : Type 0 where
+pub record IsNext (w : Watching) (watch : Watched) : Type 0 where
   pub first : w.waiting ≡ watch.entry ∷ drop 1 w.waiting
   pub there : watch.entry < length w.lits
   pub walked : lit_at w.lits watch.entry ≡ w.walked
   pub stands : IsInSomeList w.stands watch
+
+-- the entry is that of the next watch
+pub record IsNextEntry (w : Watching) (entry : ℕ) : Type 0 where
+  pub pair : Bool
+  pub blocker : Literal
+  pub next : IsNext w (record { entry = entry; pair = pair; blocker = blocker })

@@ -76,7 +76,7 @@ impl Parts {
         requires short { All (λ l. code_of l < 2 ^ 32) clause }
         requires watches_room { 2 ≤ self.old.watches.room }
         requires list_room { (code : ℕ) → uses (self.old.clauses.lists ++ clause ∷ []) code ≤ (listed_at self.old.watches.stands code).room }
-        requires fits { length self.old.watches.lits + 3 < 2 ^ 32 }
+        requires fits { length self.old.watches.lits + 3 < 2 ^ 31 }
         ensures joined { AreJoined self.new }
         ensures clauses { self.new.clauses.lists ≡ self.old.clauses.lists ++ clause ∷ [] }
         ensures assigned { self.new.assigned ≡ self.old.assigned }
@@ -92,9 +92,11 @@ impl Parts {
         let other = self.choose(lits, code(one));
         let entry = 2 * self.clauses.len();
         self.watches.push();
-        self.watches.link(entry, one, ShortLit::of(other), false);
+        let pair = lits.len() == 2;
         self.watches
-            .link(entry + 1, other, ShortLit::of(one), false);
+            .link(entry, pair, one, ShortLit::of(other), false);
+        self.watches
+            .link(entry + 1, pair, other, ShortLit::of(one), false);
         self.clauses.push(clause);
     }
 

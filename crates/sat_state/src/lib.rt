@@ -11,6 +11,7 @@ mod short;
 mod slot;
 mod state;
 mod values;
+mod watch;
 mod watches;
 
 pub use short::ShortLit;

@@ -1,19 +1,14 @@
 //! The clauses that watch a literal: near ones, which propagation walks first, and far ones.
 
 ghost use Rattle.std.specs.Prelude.{◌≡◌, ℕ, ◌+◌, ◌<◌, ◌≤◌, [], length, true, false, if◌then◌else◌, slice_index_or, slice_set, OnOk, OnErr};
+ghost use Rattle.sat_state.specs.Watched.{Watched};
 ghost use Rattle.sat_state.specs.Listed.{Listed, IsWithout};
 
 use crate::short::ShortLit;
+use crate::watch::Watch;
 use ep_base::Memory;
 use std::alloc::Global;
 use std::marker::Model;
-
-/// One of the two watched literals of a clause, by its number, and some literal of the clause.
-#[derive(Clone, Copy, Debug)]
-pub struct Watch {
-    pub entry: u32,
-    pub blocker: ShortLit,
-}
 
 /// The near ones stand before the far ones.
 #[derive(Debug, Drop)]
@@ -70,15 +65,15 @@ impl List {
         self.watches[place]
     }
 
-    /// Lets a watch name another literal of its clause.
+    /// Lets a watch name another literal of its clause, of which nothing more is known then.
     pub fn block(&mut self, place: usize, blocker: ShortLit)
         requires { place < length self.old.watches }
-        ensures watches { (d : Watch) → self.new.watches ≡ slice_set self.old.watches place (record (slice_index_or self.old.watches place d) { blocker = blocker }) }
+        ensures watches { (d : Watched) → self.new.watches ≡ slice_set self.old.watches place (record { entry = (slice_index_or self.old.watches place d).entry; pair = false; blocker = blocker }) }
         ensures nears { self.new.nears ≡ self.old.nears }
         ensures room { self.new.room ≡ self.old.room }
     {
         let watch = self.watches[place];
-        self.watches[place] = Watch { blocker, ..watch };
+        self.watches[place] = Watch::new(watch.entry(), false, blocker);
     }
 
     /// Makes room for one more.
@@ -99,7 +94,7 @@ impl List {
     pub fn push_near(&mut self, watch: Watch)
         requires { length self.old.watches < self.old.room }
         ensures rest { IsWithout self.new self.old self.old.nears false }
-        ensures there { (d : Watch) → slice_index_or self.new.watches self.old.nears d ≡ watch }
+        ensures there { (d : Watched) → slice_index_or self.new.watches self.old.nears d ≡ watch }
         ensures room { self.new.room ≡ self.old.room }
     {
         let last = self.watches.len();
@@ -112,7 +107,7 @@ impl List {
     pub fn push_far(&mut self, watch: Watch)
         requires { length self.old.watches < self.old.room }
         ensures rest { IsWithout self.new self.old (length self.old.watches) true }
-        ensures there { (d : Watch) → slice_index_or self.new.watches (length self.old.watches) d ≡ watch }
+        ensures there { (d : Watched) → slice_index_or self.new.watches (length self.old.watches) d ≡ watch }
         ensures behind { self.new.nears ≤ length self.old.watches }
         ensures room { self.new.room ≡ self.old.room }
     {
@@ -123,7 +118,7 @@ impl List {
     pub fn remove_near(&mut self, place: usize)
         requires { place < self.old.nears }
         ensures rest { IsWithout self.old self.new place false }
-        ensures before { (k : ℕ) (d : Watch) → k < place → slice_index_or self.new.watches k d ≡ slice_index_or self.old.watches k d }
+        ensures before { (k : ℕ) (d : Watched) → k < place → slice_index_or self.new.watches k d ≡ slice_index_or self.old.watches k d }
         ensures room { self.new.room ≡ self.old.room }
     {
         let last = self.nears - 1;
@@ -137,7 +132,7 @@ impl List {
         requires far { self.old.nears ≤ place }
         requires there { place < length self.old.watches }
         ensures rest { IsWithout self.old self.new place true }
-        ensures before { (k : ℕ) (d : Watch) → k < place → slice_index_or self.new.watches k d ≡ slice_index_or self.old.watches k d }
+        ensures before { (k : ℕ) (d : Watched) → k < place → slice_index_or self.new.watches k d ≡ slice_index_or self.old.watches k d }
         ensures room { self.new.room ≡ self.old.room }
     {
         self.watches.swap_remove(place);

@@ -5,7 +5,7 @@ ghost use Rattle.cnf_core.specs.Literal.{VariablesUpTo, negation};
 ghost use Rattle.cnf_core.specs.Steps.{IsAtEnd, HasTrueLiteral, HasTwoNotFalse};
 ghost use Rattle.sat_state.specs.Trail.{literals, trail_value, next_level, level_of, HasReason, IsFalsified, NamesFalsified, Gives, IsOpenBelow};
 ghost use Rattle.sat_state.specs.Stored.{clause_at};
-ghost use Rattle.sat_state.specs.Watching.{IsNext};
+ghost use Rattle.sat_state.specs.Watching.{IsNext, IsNextEntry};
 ghost use Rattle.sat_state.specs.View.{AreTwoOf, IsGuarded};
 ghost use Rattle.sat_state.specs.Guards.{ArePartners, IsTrueBy, Guards};
 ghost use Rattle.sat_state.specs.Joined.{AreJoined, GoesOn, IsAllSeen, IsWalking, place_in_queue};
@@ -148,11 +148,45 @@ impl Parts {
         None
     }
 
-    // Looks at the clause of the next one of the list that is walked. Answers whether it isn't falsified.
-    fn visit(&mut self, entry: usize, blocker: ShortLit) -> bool
+    // Reads the clause of the next one of the list that is walked. Answers whether it isn't falsified.
+    fn read(&mut self, entry: usize) -> bool
         requires joined { AreJoined self.old }
         requires walking { IsWalking self.old }
-        requires next { IsNext self.old.watches (record { entry = entry; blocker = blocker }) }
+        requires next { IsNextEntry self.old.watches entry }
+        ensures goes { GoesOn self.old self.new }
+        ensures walking { IsTrue result → IsWalking self.new }
+        ensures shorter { IsTrue result → length self.new.watches.waiting + 1 ≡ length self.old.watches.waiting }
+        ensures queue { self.new.queue ≡ self.old.queue }
+        ensures tier { self.new.watches.walks_far ≡ self.old.watches.walks_far }
+        ensures falsified { result ≡ false → NamesFalsified self.new.clauses.lists self.new.assigned.trail (entry / 2) }
+    {
+        let other = self.watches.lit(partner(entry));
+        if self.assigned.is_short_true(other) {
+            self.watches.keep_with(other);
+            return true;
+        }
+        let number = entry / 2;
+        let found = other.lit();
+        if let Some(lit) = self.clauses.other_open(&self.assigned, number, found) {
+            self.watches.take();
+            let far = self.clauses.is_far(number);
+            self.watches.link(entry, false, lit, other, far);
+            return true;
+        }
+        if self.assigned.is_short_true(other.negated()) {
+            return false;
+        }
+        self.force(found, number);
+        self.watches.keep();
+        true
+    }
+
+    // Looks at the clause of the next one of the list that is walked: at the literal beside the entry first, which is the other one where
+    // there are two and it isn't false. Answers whether the clause isn't falsified.
+    fn visit(&mut self, entry: usize, pair: bool, blocker: ShortLit) -> bool
+        requires joined { AreJoined self.old }
+        requires walking { IsWalking self.old }
+        requires next { IsNext self.old.watches (record { entry = entry; pair = pair; blocker = blocker }) }
         ensures goes { GoesOn self.old self.new }
         ensures walking { IsTrue result → IsWalking self.new }
         ensures shorter { IsTrue result → length self.new.watches.waiting + 1 ≡ length self.old.watches.waiting }
@@ -164,23 +198,13 @@ impl Parts {
             self.watches.keep();
             return true;
         }
-        let other = self.watches.lit(partner(entry));
-        if self.assigned.is_short_true(other) {
-            self.watches.keep_with(other);
-            return true;
+        if !pair {
+            return self.read(entry);
         }
-        let number = entry / 2;
-        let found = other.lit();
-        if let Some(lit) = self.clauses.other_open(&self.assigned, number, found) {
-            self.watches.take();
-            let far = self.clauses.is_far(number);
-            self.watches.link(entry, lit, other, far);
-            return true;
+        if self.assigned.is_short_true(blocker.negated()) {
+            return self.read(entry);
         }
-        if self.assigned.is_short_true(other.negated()) {
-            return false;
-        }
-        self.force(found, number);
+        self.force(blocker.lit(), entry / 2);
         self.watches.keep();
         true
     }
@@ -198,8 +222,8 @@ impl Parts {
     {
         let lit = self.assigned.trail()[self.queue.place(far)].lit().negated();
         self.watches.start(lit, far);
-        'walk: while let Some((entry, blocker)) = self.watches.current() {
-            if !self.visit(entry, blocker) {
+        'walk: while let Some((entry, pair, blocker)) = self.watches.current() {
+            if !self.visit(entry, pair, blocker) {
                 return Some(entry / 2);
             }
         }

@@ -4,11 +4,13 @@
 ghost use Rattle.std.specs.Prelude.{◌≡◌, ◌≢◌, ℕ, ◌+◌, ◌*◌, ◌^◌, ◌<◌, ◌≤◌, ◌⊎◌, [], ◌∷◌, ◌++◌, length, drop, max, false, slice_index, Contains, OnOk, IfSome, IsNone};
 ghost use Rattle.std.proofs.Common.{set};
 ghost use Rattle.cnf_core.specs.Literal.{code_of};
+ghost use Rattle.sat_state.specs.Watched.{Watched};
 ghost use Rattle.sat_state.specs.Watching.{Watching, no_lit, lit_at, far_at, listed_at, IsInSomeList, links, IsNext};
 ghost use Rattle.sat_state.specs.WatchesInside.{name_of};
 
-use crate::list::{List, Watch};
+use crate::list::List;
 use crate::short::ShortLit;
+use crate::watch::Watch;
 use cnf_core::Lit;
 use ep_base::Memory;
 use std::alloc::Global;
@@ -110,9 +112,9 @@ impl Watches {
         ensures stands { self.new.stands ≡ self.old.stands }
         ensures lists { self.new.lists ≡ self.old.lists }
         ensures room { OnOk result (2 ≤ self.new.room) }
-        ensures fits { OnOk result (length self.new.lits + 3 < 2 ^ 32) }
+        ensures fits { OnOk result (length self.new.lits + 3 < 2 ^ 31) }
     {
-        if self.names.len() >= u32::MAX as usize - 3 {
+        if self.names.len() >= (u32::MAX / 2) as usize - 3 {
             return Err(Memory);
         }
         self.names.reserve(2)?;
@@ -138,7 +140,7 @@ impl Watches {
     /// Two entries that watch nothing. Ends a walk.
     pub fn push(&mut self)
         requires room { 2 ≤ self.old.room }
-        requires fits { length self.old.lits + 3 < 2 ^ 32 }
+        requires fits { length self.old.lits + 3 < 2 ^ 31 }
         ensures lits { self.new.lits ≡ self.old.lits ++ no_lit ∷ no_lit ∷ [] }
         ensures fars { self.new.fars ≡ self.old.fars ++ false ∷ false ∷ [] }
         ensures stands { self.new.stands ≡ self.old.stands }
@@ -181,8 +183,9 @@ impl Watches {
         (self.lit(entry).lit(), self.lit(entry + 1).lit())
     }
 
-    /// Puts an entry that watches nothing into a part of the list of a literal, with some literal of its clause. Takes no memory.
-    pub fn link(&mut self, entry: usize, lit: Lit, blocker: ShortLit, far: bool)
+    /// Puts an entry that watches nothing into a part of the list of a literal, with whether its clause is known to have two literals
+    /// and some literal of it. Takes no memory.
+    pub fn link(&mut self, entry: usize, pair: bool, lit: Lit, blocker: ShortLit, far: bool)
         requires there { entry < length self.old.lits }
         requires none { lit_at self.old.lits entry ≡ no_lit }
         requires known { code_of lit < self.old.lists }
@@ -190,7 +193,7 @@ impl Watches {
         requires other { (self.old.waiting ≡ []) ⊎ (lit ≢ self.old.walked) }
         ensures lits { self.new.lits ≡ set self.old.lits entry lit }
         ensures fars { self.new.fars ≡ set self.old.fars entry far }
-        ensures stands { (w : Watch) → IsInSomeList self.new.stands w → IsInSomeList self.old.stands w ⊎ (w ≡ record { entry = entry; blocker = blocker }) }
+        ensures stands { (w : Watched) → IsInSomeList self.new.stands w → IsInSomeList self.old.stands w ⊎ (w ≡ record { entry = entry; pair = pair; blocker = blocker }) }
         ensures kept { (code : ℕ) → (listed_at self.new.stands code).room ≡ (listed_at self.old.stands code).room }
         ensures lists { self.new.lists ≡ self.old.lists }
         ensures walked { self.new.walked ≡ self.old.walked }
@@ -200,10 +203,7 @@ impl Watches {
         // Shows that the numbers of entries and of lists fit their words.
         let _entries = self.names.len();
         let code = code(lit);
-        let watch = Watch {
-            entry: entry as u32,
-            blocker,
-        };
+        let watch = Watch::new(entry as u32, pair, blocker);
         self.names[entry] = name(code, far);
         if far {
             self.lists[code].push_far(watch);
@@ -238,16 +238,16 @@ impl Watches {
         }
     }
 
-    /// The next entry of the part that is walked, and the literal beside it.
-    pub fn current(&self) -> Option<(usize, ShortLit)>
-        ensures some { IfSome result (λ w. IsNext self.now (record { entry = w.0; blocker = w.1 })) }
+    /// The next entry of the part that is walked, whether its clause is known to have two literals, and the literal beside it.
+    pub fn current(&self) -> Option<(usize, bool, ShortLit)>
+        ensures some { IfSome result (λ w. IsNext self.now (record { entry = w.0; pair = w.1; blocker = w.2 })) }
         ensures none { IsNone result → self.now.waiting ≡ [] }
     {
         if self.left == 0 {
             None
         } else {
             let watch = self.lists[(self.walked / 2) as usize].at(self.low + (self.left - 1));
-            Some((watch.entry as usize, watch.blocker))
+            Some((watch.entry() as usize, watch.is_pair(), watch.blocker()))
         }
     }
 
@@ -270,8 +270,8 @@ impl Watches {
         requires { 0 < length self.old.waiting }
         ensures lits { self.new.lits ≡ self.old.lits }
         ensures fars { self.new.fars ≡ self.old.fars }
-        ensures stands { (w : Watch) → IsInSomeList self.new.stands w
-            → IsInSomeList self.old.stands w ⊎ (w ≡ record { entry = slice_index self.old.waiting 0; blocker = blocker }) }
+        ensures stands { (w : Watched) → IsInSomeList self.new.stands w
+            → IsInSomeList self.old.stands w ⊎ (w ≡ record { entry = slice_index self.old.waiting 0; pair = false; blocker = blocker }) }
         ensures kept { (code : ℕ) → (listed_at self.new.stands code).room ≡ (listed_at self.old.stands code).room }
         ensures lists { self.new.lists ≡ self.old.lists }
         ensures walked { self.new.walked ≡ self.old.walked }
@@ -287,7 +287,7 @@ impl Watches {
         requires { 0 < length self.old.waiting }
         ensures lits { self.new.lits ≡ set self.old.lits (slice_index self.old.waiting 0) no_lit }
         ensures fars { self.new.fars ≡ set self.old.fars (slice_index self.old.waiting 0) false }
-        ensures stands { (w : Watch) → IsInSomeList self.new.stands w → IsInSomeList self.old.stands w }
+        ensures stands { (w : Watched) → IsInSomeList self.new.stands w → IsInSomeList self.old.stands w }
         ensures kept { (code : ℕ) → (listed_at self.new.stands code).room ≡ (listed_at self.old.stands code).room }
         ensures lists { self.new.lists ≡ self.old.lists }
         ensures walked { self.new.walked ≡ self.old.walked }
@@ -298,7 +298,7 @@ impl Watches {
         self.left -= 1;
         let place = self.low + self.left;
         let watch = self.lists[code].at(place);
-        self.names[watch.entry as usize] = 0;
+        self.names[watch.entry() as usize] = 0;
         if self.walked % 2 == 1 {
             self.lists[code].remove_far(place);
         } else {

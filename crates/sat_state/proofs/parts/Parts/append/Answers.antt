@@ -1,5 +1,6 @@
-use Rattle.std.proofs.Common.{◌≡◌, ◌≢◌, ◌+◌, ◌*◌, ◌≤◌, ◌<◌, ◌⊎◌, ◌∷◌, [], ◌++◌, ℕ, Bool, List, true, false, length, length-append, set, All, Contains, refl, sym, ap, ◌∙◌, subst, inl, inr, ⊎_elim, arith}
+use Rattle.std.proofs.Common.{◌≡◌, ◌≢◌, ◌+◌, ◌*◌, ◌≤◌, ◌<◌, ◌⊎◌, ◌∷◌, [], ◌++◌, ℕ, Bool, List, true, false, eqb, length, length-append, set, All, Contains, refl, sym, ap, ◌∙◌, subst, inl, inr, ⊎_elim, arith}
 use Rattle.std.proofs.lemmas.List.{length-set}
+use Rattle.std.proofs.lemmas.Bool.{eqb-true}
 use Rattle.cnf_core.specs.Literal.{Literal, code_of, IsClause}
 use Rattle.sat_state.specs.Trail.{literals, level_of, IsOpenBelow}
 use Rattle.sat_state.specs.Watching.{no_lit, lit_at, far_at, listed_at, IsInSomeList, links}
@@ -74,6 +75,8 @@ returns-clause-joined c =
     ∙ ap (λ (k : ℕ). set (set (lits ++ no_lit ∷ no_lit ∷ []) (2 * k) a) (2 * k + 1) b) c.len-entry.ensures in
     let long_lits : length (set (set (lits ++ no_lit ∷ no_lit ∷ []) (2 * n) a) (2 * n + 1) b) ≡ length lits + 2
     = omega (arith, length-set (set (lits ++ no_lit ∷ no_lit ∷ []) (2 * n) a) (2 * n + 1) b, length-set (lits ++ no_lit ∷ no_lit ∷ []) (2 * n) a, length-append lits (no_lit ∷ no_lit ∷ [])) in
+    let said = eqb (length found) 2 in
+    let two : said ≡ true → length clause ≡ 2 = λ e. omega (arith, ap length value, eqb-true (length found) 2 e) in
     let tiers : c.link-2.new.self.fars ≡ set (set (fars ++ false ∷ false ∷ []) (2 * n) false) (2 * n + 1) false
     = c.link-2.ensures.fars ∙ ap (λ (fs : List Bool). set fs (2 * c.len-entry.result + 1) false) (c.link.ensures.fars ∙ ap (λ (fs : List Bool). set fs (2 * c.len-entry.result) false) c.push-2.ensures.fars)
     ∙ ap (λ (k : ℕ). set (set (fars ++ false ∷ false ∷ []) (2 * k) false) (2 * k + 1) false) c.len-entry.ensures in
@@ -87,12 +90,12 @@ returns-clause-joined c =
     (λ x s. ⊎_elim
     (λ (was : IsInSomeList c.link.new.self.stands x). ⊎_elim
     (λ (stood : IsInSomeList c.push-2.new.self.stands x). inl (subst (λ (ls : List Listed). IsInSomeList ls x) c.push-2.ensures.stands stood))
-    (λ (is : x ≡ record { entry = 2 * c.len-entry.result; blocker = c.of.result }).
-    inr (both_of old.clauses.lists clause c.link-2.new.self.lits x (2 * c.len-entry.result) c.of.result is (omega (arith, c.len-entry.ensures)) (omega (arith, c.len-entry.ensures, ap length is_lits, long_lits, entries))
+    (λ (is : x ≡ record { entry = 2 * c.len-entry.result; pair = said; blocker = c.of.result }).
+    inr (both_of old.clauses.lists clause c.link-2.new.self.lits x (2 * c.len-entry.result) said c.of.result is (omega (arith, c.len-entry.ensures)) (omega (arith, c.len-entry.ensures, ap length is_lits, long_lits, entries)) two
     (subst (λ (l : Literal). Contains clause l) (sym c.of.ensures) (subst (λ (ls : List Literal). Contains ls b) value c.choose-other.ensures.in_clause))))
     (c.link.ensures.stands x was))
-    (λ (is : x ≡ record { entry = 2 * c.len-entry.result + 1; blocker = c.of-2.result }).
-    inr (both_of old.clauses.lists clause c.link-2.new.self.lits x (2 * c.len-entry.result + 1) c.of-2.result is (omega (arith, c.len-entry.ensures)) (omega (arith, c.len-entry.ensures, ap length is_lits, long_lits, entries))
+    (λ (is : x ≡ record { entry = 2 * c.len-entry.result + 1; pair = said; blocker = c.of-2.result }).
+    inr (both_of old.clauses.lists clause c.link-2.new.self.lits x (2 * c.len-entry.result + 1) said c.of-2.result is (omega (arith, c.len-entry.ensures)) (omega (arith, c.len-entry.ensures, ap length is_lits, long_lits, entries)) two
     (subst (λ (l : Literal). Contains clause l) (sym c.of-2.ensures) (subst (λ (ls : List Literal). Contains ls a) value c.choose-one.ensures.in_clause))))
     (c.link-2.ensures.stands x s))
     (λ k. omega (arith, c.requires.list_room k, c.link-2.ensures.kept k, c.link.ensures.kept k, ap (λ (ls : List Listed). (listed_at ls k).room) c.push-2.ensures.stands)) refl refl

@@ -4,7 +4,7 @@ use Rattle.sat_state.specs.Listed.{Listed}
 use Rattle.sat_state.specs.Watching.{IsNext}
 use Rattle.sat_state.specs.WatchesInside.{no_watch, watch_in}
 use Rattle.sat_state.proofs.Listing.{list_read}
-use Rattle.sat_state.proofs.Walking.{walked_list, next_in, walk_known, next_fits, next_seen}
+use Rattle.sat_state.proofs.Walking.{watch_of, walked_list, next_in, walk_known, next_fits, next_seen}
 use Rattle.sat_state.proofs.watches.Watches.current.Goals as goal
 
 pub overflow_add-self-inside : goal.overflow_add-self-inside
@@ -24,4 +24,6 @@ returns-else-self-eq0-clause-some c =
     let read : c.index.result.now ≡ list = list_read a.lists.items (a.walked / 2) c.index.result.now (walk_known a now is inv some) c.index.ensures in
     let at : c.at-watch.result ≡ watch_in list place
     = c.at-watch.ensures ∙ ap (λ (l : Listed). get_or l.watches place c.at-watch.result) read ∙ get_or_default list.watches place c.at-watch.result no_watch (next_in a now is inv some) in
-    subst (IsNext now) (sym at) (next_seen a now is inv some)
+    let parts : record { entry = c.entry.result; pair = c.is_pair.result; blocker = c.blocker.result } ≡ c.at-watch.result
+    = watch_of c.at-watch.result c.entry.result c.is_pair.result c.blocker.result c.entry.ensures.value c.is_pair.ensures c.blocker.ensures in
+    subst (IsNext now) (sym (parts ∙ at)) (next_seen a now is inv some)

@@ -1,4 +1,4 @@
-use Rattle.std.proofs.Common.{◌≡◌, ◌-◌, ◌+◌, ◌/◌, ◌∙◌, ℕ, List, length, get_or, set, Contains, sym, ap, subst, inl, inr, ⊎_elim, arith}
+use Rattle.std.proofs.Common.{◌≡◌, ◌-◌, ◌+◌, ◌/◌, ◌∙◌, ℕ, false, List, length, get_or, set, Contains, sym, ap, subst, inl, inr, ⊎_elim, arith}
 use Rattle.std.proofs.lemmas.List.{length-set}
 use Rattle.sat_state.specs.Listed.{Listed}
 use Rattle.sat_state.specs.Watching.{listed_at, IsInSomeList}
@@ -45,8 +45,8 @@ returns-clause-stands c = λ w s.
     (λ (stood : Contains list.watches w).
     let was : IsInSomeList a.lists.items w = record { code = code; there = stood } in
     inl (subst (λ (ls : List Listed). IsInSomeList ls w) (stands_seen a now c.self.view_is) was))
-    (λ (is : w ≡ record { entry = (watch_in list place).entry; blocker = c.args.blocker }).
-    inr (is ∙ ap (λ (n : ℕ). record { entry = n; blocker = c.args.blocker }) (sym (next_first a now c.self.view_is c.self.invariant some))))
+    (λ (is : w ≡ record { entry = (watch_in list place).entry; pair = false; blocker = c.args.blocker }).
+    inr (is ∙ ap (λ (n : ℕ). record { entry = n; pair = false; blocker = c.args.blocker }) (sym (next_first a now c.self.view_is c.self.invariant some))))
     (stood_blocked list.watches new.watches place c.args.blocker w (next_in a now c.self.view_is c.self.invariant some) (blocked_watches a now c.self.view_is c.self.invariant some c.index_mut.result.now c.block.new.self c.args.blocker c.index_mut.ensures.value c.block.ensures.watches c.block.ensures.nears) in_it))
     (λ (was : IsInSomeList a.lists.items w). inl (subst (λ (ls : List Listed). IsInSomeList ls w) (stands_seen a now c.self.view_is) was))
     (stands_set a.lists.items code new w known s)

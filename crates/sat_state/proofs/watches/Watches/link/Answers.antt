@@ -1,6 +1,6 @@
 use Rattle.std.proofs.Common.{◌≡◌, ◌∙◌, ◌+◌, ◌*◌, Bool, true, false, cond, ltb, length, refl, ap, arith}
 use Rattle.std.proofs.lemmas.Bool.Decides.{nat_tests}
-use Rattle.sat_state.specs.declared.list.Watch.{Watch}
+use Rattle.sat_state.specs.Watched.{Watched}
 use Rattle.sat_state.specs.Watching.{Watching}
 use Rattle.sat_state.specs.WatchesInside.{literal_at}
 use Rattle.sat_state.proofs.Codes.{literal_again}
@@ -45,7 +45,7 @@ invariant_of-self c =
     let known = code_known a now c.self.view_is c.self.invariant code c.args.lit c.code-code.ensures.value c.code-code.ensures.some c.requires.known in
     let cell = c.index_mut-then-far.result.now in
     let read = list_read a.lists.items code cell known c.index_mut-then-far.ensures.value in
-    let x : Watch = record { entry = c.args.entry; blocker = c.args.blocker } in
+    let x : Watched = record { entry = c.args.entry; pair = c.args.pair; blocker = c.args.blocker } in
     let named : c.name.result ≡ 2 * code + cond true 1 0 = c.name.ensures ∙ ap (λ (b : Bool). 2 * code + cond b 1 0) c.if-far.true in
     let behind : ltb (length cell.watches) c.push_far.new.self.nears ≡ false = let le = c.push_far.ensures.behind in grind (arith, nat_tests) in
     record {
@@ -64,7 +64,7 @@ invariant_of-self-else-far c =
     let known = code_known a now c.self.view_is c.self.invariant code c.args.lit c.code-code.ensures.value c.code-code.ensures.some c.requires.known in
     let cell = c.index_mut-else-far.result.now in
     let read = list_read a.lists.items code cell known c.index_mut-else-far.ensures.value in
-    let x : Watch = record { entry = c.args.entry; blocker = c.args.blocker } in
+    let x : Watched = record { entry = c.args.entry; pair = c.args.pair; blocker = c.args.blocker } in
     let named : c.name.result ≡ 2 * code + cond false 1 0 = c.name.ensures ∙ ap (λ (b : Bool). 2 * code + cond b 1 0) c.if-far.false in
     let before : ltb cell.nears c.push_near.new.self.nears ≡ true = let more = c.push_near.ensures.rest.nears in grind (arith, nat_tests) in
     record {
@@ -105,7 +105,7 @@ returns-then-far-clause-stands c =
     let read = list_read a.lists.items code cell known c.index_mut-then-far.ensures.value in
     let named : c.name.result ≡ 2 * code + cond true 1 0 = c.name.ensures ∙ ap (λ (b : Bool). 2 * code + cond b 1 0) c.if-far.true in
     linked_stands a now c.self.view_is c.self.invariant code c.args.lit c.code-code.ensures.value c.code-code.ensures.some c.requires.known
-    c.args.entry c.name.result (length cell.watches) true cell c.push_far.new.self (record { entry = c.args.entry; blocker = c.args.blocker }) read c.push_far.ensures.rest c.push_far.ensures.there named
+    c.args.entry c.name.result (length cell.watches) true cell c.push_far.new.self (record { entry = c.args.entry; pair = c.args.pair; blocker = c.args.blocker }) read c.push_far.ensures.rest c.push_far.ensures.there named
 
 pub returns-else-far-clause-stands : goal.returns-else-far-clause-stands
 returns-else-far-clause-stands c =
@@ -117,7 +117,7 @@ returns-else-far-clause-stands c =
     let read = list_read a.lists.items code cell known c.index_mut-else-far.ensures.value in
     let named : c.name.result ≡ 2 * code + cond false 1 0 = c.name.ensures ∙ ap (λ (b : Bool). 2 * code + cond b 1 0) c.if-far.false in
     linked_stands a now c.self.view_is c.self.invariant code c.args.lit c.code-code.ensures.value c.code-code.ensures.some c.requires.known
-    c.args.entry c.name.result cell.nears false cell c.push_near.new.self (record { entry = c.args.entry; blocker = c.args.blocker }) read c.push_near.ensures.rest c.push_near.ensures.there named
+    c.args.entry c.name.result cell.nears false cell c.push_near.new.self (record { entry = c.args.entry; pair = c.args.pair; blocker = c.args.blocker }) read c.push_near.ensures.rest c.push_near.ensures.there named
 
 pub returns-then-far-clause-waiting : goal.returns-then-far-clause-waiting
 returns-then-far-clause-waiting c =
@@ -129,7 +129,7 @@ returns-then-far-clause-waiting c =
     let read = list_read a.lists.items code cell known c.index_mut-then-far.ensures.value in
     let named : c.name.result ≡ 2 * code + cond true 1 0 = c.name.ensures ∙ ap (λ (b : Bool). 2 * code + cond b 1 0) c.if-far.true in
     linked_waiting a now c.self.view_is c.self.invariant code c.args.lit c.code-code.ensures.value c.code-code.ensures.some c.requires.known
-    c.args.entry c.name.result (length cell.watches) true cell c.push_far.new.self (record { entry = c.args.entry; blocker = c.args.blocker }) read c.push_far.ensures.rest c.push_far.ensures.there named c.requires.other
+    c.args.entry c.name.result (length cell.watches) true cell c.push_far.new.self (record { entry = c.args.entry; pair = c.args.pair; blocker = c.args.blocker }) read c.push_far.ensures.rest c.push_far.ensures.there named c.requires.other
 
 pub returns-else-far-clause-waiting : goal.returns-else-far-clause-waiting
 returns-else-far-clause-waiting c =
@@ -141,4 +141,4 @@ returns-else-far-clause-waiting c =
     let read = list_read a.lists.items code cell known c.index_mut-else-far.ensures.value in
     let named : c.name.result ≡ 2 * code + cond false 1 0 = c.name.ensures ∙ ap (λ (b : Bool). 2 * code + cond b 1 0) c.if-far.false in
     linked_waiting a now c.self.view_is c.self.invariant code c.args.lit c.code-code.ensures.value c.code-code.ensures.some c.requires.known
-    c.args.entry c.name.result cell.nears false cell c.push_near.new.self (record { entry = c.args.entry; blocker = c.args.blocker }) read c.push_near.ensures.rest c.push_near.ensures.there named c.requires.other
+    c.args.entry c.name.result cell.nears false cell c.push_near.new.self (record { entry = c.args.entry; pair = c.args.pair; blocker = c.args.blocker }) read c.push_near.ensures.rest c.push_near.ensures.there named c.requires.other

@@ -1,5 +1,5 @@
 use Rattle.std.proofs.Common.{◌≡◌, ◌<◌, ◌∙◌, List, length, get_or, ap, arith}
-use Rattle.sat_state.specs.declared.list.Watch.{Watch}
+use Rattle.sat_state.specs.Watched.{Watched}
 use Rattle.sat_state.specs.Listed.{Listed}
 use Rattle.sat_state.specs.Watching.{listed_at}
 use Rattle.sat_state.specs.WatchesInside.{no_watch}
@@ -17,7 +17,7 @@ invariant_of-self c =
     record {
       listed = listed_set a.names.items a.lists.items code c.make_room.new.self c.self.invariant.listed known
           (same_entries a.names.items code (listed_at a.lists.items code) c.make_room.new.self (c.self.invariant.listed.each code) (ap length watches) (c.make_room.ensures.nears ∙ ap (λ (l : Listed). l.nears) read)
-          (λ k lt. ap (λ (ws : List Watch). (get_or ws k no_watch).entry) watches));
+          (λ k lt. ap (λ (ws : List Watched). (get_or ws k no_watch).entry) watches));
       walk = λ some. absurd (omega (arith, some));
     }
 
@@ -31,6 +31,6 @@ invariant_of-self-2 c =
     record {
       listed = listed_set a.names.items a.lists.items code c.make_room.new.self c.self.invariant.listed known
           (same_entries a.names.items code (listed_at a.lists.items code) c.make_room.new.self (c.self.invariant.listed.each code) (ap length watches) (c.make_room.ensures.nears ∙ ap (λ (l : Listed). l.nears) read)
-          (λ k lt. ap (λ (ws : List Watch). (get_or ws k no_watch).entry) watches));
+          (λ k lt. ap (λ (ws : List Watched). (get_or ws k no_watch).entry) watches));
       walk = λ some. absurd (omega (arith, some));
     }

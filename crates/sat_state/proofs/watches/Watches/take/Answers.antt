@@ -15,7 +15,7 @@ index_mut-requires c =
     let a = c.self.inside in
     let now = c.args.self.now in
     let some = some_left a now c.self.view_is c.requires in
-    omega (arith, read_next a now c.self.view_is c.self.invariant some c.index.result.now c.at-watch.result c.index.ensures c.at-watch.ensures, entry_there a now c.self.view_is c.self.invariant some, a.names.ok.0)
+    omega (arith, c.entry.ensures.value, read_next a now c.self.view_is c.self.invariant some c.index.result.now c.at-watch.result c.index.ensures c.at-watch.ensures, entry_there a now c.self.view_is c.self.invariant some, a.names.ok.0)
 
 -- a far one
 
@@ -48,7 +48,7 @@ invariant_of-self c =
     let read = list_read a.lists.items (a.walked / 2) cell (walk_known a now is inv some) c.index_mut-then-self-eq1.ensures.value in
     let out = taken a now is inv some cell c.remove_far.new.self true read c.remove_far.ensures.rest in
     record {
-      listed = listed_out a.names.items a.lists.items (a.walked / 2) c.at-watch.result.entry (a.low + (a.left - 1)) true c.remove_far.new.self inv.listed (walk_known a now is inv some) out (sym (read_next a now c.self.view_is c.self.invariant some c.index.result.now c.at-watch.result c.index.ensures c.at-watch.ensures));
+      listed = listed_out a.names.items a.lists.items (a.walked / 2) c.entry.result (a.low + (a.left - 1)) true c.remove_far.new.self inv.listed (walk_known a now is inv some) out (sym (c.entry.ensures.value ∙ read_next a now c.self.view_is c.self.invariant some c.index.result.now c.at-watch.result c.index.ensures c.at-watch.ensures));
       walk = λ more. walks_out a.lists.items a.walked a.low a.left (a.low + (a.left - 1)) true c.remove_far.new.self (inv.walk some) some (is_far a.walked c.if-self-eq1.true) out;
     }
 
@@ -57,16 +57,16 @@ returns-then-self-eq1-clause-lits c =
     let a = c.self.inside in
     let now = c.args.self.now in
     let some = some_left a now c.self.view_is c.requires in
-    lits_set a.names.items now.lits c.at-watch.result.entry 0 no_lit (ap (λ (w : Watching). w.lits) c.self.view_is) refl
-    ∙ ap (λ (n : ℕ). Rattle.std.proofs.Common.set now.lits n no_lit) (read_next a now c.self.view_is c.self.invariant some c.index.result.now c.at-watch.result c.index.ensures c.at-watch.ensures ∙ sym (next_first a now c.self.view_is c.self.invariant some))
+    lits_set a.names.items now.lits c.entry.result 0 no_lit (ap (λ (w : Watching). w.lits) c.self.view_is) refl
+    ∙ ap (λ (n : ℕ). Rattle.std.proofs.Common.set now.lits n no_lit) (c.entry.ensures.value ∙ read_next a now c.self.view_is c.self.invariant some c.index.result.now c.at-watch.result c.index.ensures c.at-watch.ensures ∙ sym (next_first a now c.self.view_is c.self.invariant some))
 
 pub returns-then-self-eq1-clause-fars : goal.returns-then-self-eq1-clause-fars
 returns-then-self-eq1-clause-fars c =
     let a = c.self.inside in
     let now = c.args.self.now in
     let some = some_left a now c.self.view_is c.requires in
-    fars_set a.names.items now.fars c.at-watch.result.entry 0 false (ap (λ (w : Watching). w.fars) c.self.view_is) refl
-    ∙ ap (λ (n : ℕ). Rattle.std.proofs.Common.set now.fars n false) (read_next a now c.self.view_is c.self.invariant some c.index.result.now c.at-watch.result c.index.ensures c.at-watch.ensures ∙ sym (next_first a now c.self.view_is c.self.invariant some))
+    fars_set a.names.items now.fars c.entry.result 0 false (ap (λ (w : Watching). w.fars) c.self.view_is) refl
+    ∙ ap (λ (n : ℕ). Rattle.std.proofs.Common.set now.fars n false) (c.entry.ensures.value ∙ read_next a now c.self.view_is c.self.invariant some c.index.result.now c.at-watch.result c.index.ensures c.at-watch.ensures ∙ sym (next_first a now c.self.view_is c.self.invariant some))
 
 pub returns-then-self-eq1-clause-stands : goal.returns-then-self-eq1-clause-stands
 returns-then-self-eq1-clause-stands c =
@@ -108,7 +108,7 @@ invariant_of-self-else-self-eq1 c =
     let read = list_read a.lists.items (a.walked / 2) cell (walk_known a now is inv some) c.index_mut-else-self-eq1.ensures.value in
     let out = taken a now is inv some cell c.remove_near.new.self false read c.remove_near.ensures.rest in
     record {
-      listed = listed_out a.names.items a.lists.items (a.walked / 2) c.at-watch.result.entry (a.low + (a.left - 1)) false c.remove_near.new.self inv.listed (walk_known a now is inv some) out (sym (read_next a now c.self.view_is c.self.invariant some c.index.result.now c.at-watch.result c.index.ensures c.at-watch.ensures));
+      listed = listed_out a.names.items a.lists.items (a.walked / 2) c.entry.result (a.low + (a.left - 1)) false c.remove_near.new.self inv.listed (walk_known a now is inv some) out (sym (c.entry.ensures.value ∙ read_next a now c.self.view_is c.self.invariant some c.index.result.now c.at-watch.result c.index.ensures c.at-watch.ensures));
       walk = λ more. walks_out a.lists.items a.walked a.low a.left (a.low + (a.left - 1)) false c.remove_near.new.self (inv.walk some) some (is_near a.walked c.if-self-eq1.false) out;
     }
 
@@ -117,16 +117,16 @@ returns-else-self-eq1-clause-lits c =
     let a = c.self.inside in
     let now = c.args.self.now in
     let some = some_left a now c.self.view_is c.requires in
-    lits_set a.names.items now.lits c.at-watch.result.entry 0 no_lit (ap (λ (w : Watching). w.lits) c.self.view_is) refl
-    ∙ ap (λ (n : ℕ). Rattle.std.proofs.Common.set now.lits n no_lit) (read_next a now c.self.view_is c.self.invariant some c.index.result.now c.at-watch.result c.index.ensures c.at-watch.ensures ∙ sym (next_first a now c.self.view_is c.self.invariant some))
+    lits_set a.names.items now.lits c.entry.result 0 no_lit (ap (λ (w : Watching). w.lits) c.self.view_is) refl
+    ∙ ap (λ (n : ℕ). Rattle.std.proofs.Common.set now.lits n no_lit) (c.entry.ensures.value ∙ read_next a now c.self.view_is c.self.invariant some c.index.result.now c.at-watch.result c.index.ensures c.at-watch.ensures ∙ sym (next_first a now c.self.view_is c.self.invariant some))
 
 pub returns-else-self-eq1-clause-fars : goal.returns-else-self-eq1-clause-fars
 returns-else-self-eq1-clause-fars c =
     let a = c.self.inside in
     let now = c.args.self.now in
     let some = some_left a now c.self.view_is c.requires in
-    fars_set a.names.items now.fars c.at-watch.result.entry 0 false (ap (λ (w : Watching). w.fars) c.self.view_is) refl
-    ∙ ap (λ (n : ℕ). Rattle.std.proofs.Common.set now.fars n false) (read_next a now c.self.view_is c.self.invariant some c.index.result.now c.at-watch.result c.index.ensures c.at-watch.ensures ∙ sym (next_first a now c.self.view_is c.self.invariant some))
+    fars_set a.names.items now.fars c.entry.result 0 false (ap (λ (w : Watching). w.fars) c.self.view_is) refl
+    ∙ ap (λ (n : ℕ). Rattle.std.proofs.Common.set now.fars n false) (c.entry.ensures.value ∙ read_next a now c.self.view_is c.self.invariant some c.index.result.now c.at-watch.result c.index.ensures c.at-watch.ensures ∙ sym (next_first a now c.self.view_is c.self.invariant some))
 
 pub returns-else-self-eq1-clause-stands : goal.returns-else-self-eq1-clause-stands
 returns-else-self-eq1-clause-stands c =
