@@ -13,8 +13,6 @@ mod places;
 mod reserved;
 mod run_lists;
 mod std_devices;
-#[cfg(test)]
-mod tests;
 mod tokens;
 mod words;
 

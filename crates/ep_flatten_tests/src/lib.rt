@@ -2,8 +2,12 @@
 #![tactic(auto)]
 
 #[cfg(test)]
+mod bounds;
+#[cfg(test)]
 mod grounds;
 #[cfg(test)]
 mod rows;
 #[cfg(test)]
 mod simplified;
+#[cfg(test)]
+mod terms;

@@ -7,8 +7,6 @@ mod grounds;
 mod laws;
 mod nodes;
 mod terms;
-#[cfg(test)]
-mod tests;
 
 pub use arena::{Arena, InternError};
 pub use cells::Cell;

@@ -3,8 +3,6 @@
 
 mod checks;
 mod reaches;
-#[cfg(test)]
-mod tests;
 
 pub use checks::{is_bounded, is_well_formed};
 pub use reaches::near_reach;

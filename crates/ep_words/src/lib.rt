@@ -9,8 +9,6 @@ mod options;
 mod read;
 mod settings;
 mod task;
-#[cfg(test)]
-mod tests;
 mod values;
 
 pub use errors::WordsError;

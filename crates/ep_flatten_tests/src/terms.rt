@@ -1,11 +1,11 @@
-//! Each call once.
+//! Terms of an arena.
 
-use crate::{Arena, Node};
 use ep_base::CompareOp;
+use ep_ground::{Arena, Node};
 use std::test::Fail;
 
 #[test]
-#[tactic(auto, unfolding(crate::specs::Nodes::parts_of))]
+#[tactic(auto, unfolding(ep_ground::specs::Nodes::parts_of))]
 fn an_equal_node_is_the_same_term(rt: HostRuntime) -> Result<(), Fail> {
     let mut arena = Arena::new(rt.alloc());
     let three = arena.intern(Node::Const(3))?;

@@ -1,5 +1,7 @@
-use super::*;
+//! Lines of words, and the jobs that they ask for.
+
 use ep_base::Word;
+use ep_words::{WordsError, read_words};
 use std::alloc::Global;
 use std::test::Fail;
 

@@ -1,6 +1,6 @@
 //! Each public call once on its happy path, and what the sentences on devices say of refusals.
 
-use crate::{
+use ep_base::{
     FileError, Files, MemFiles, MemSink, Memory, Name, Place, PutError, Run, Runs, Word, put_all,
 };
 use std::alloc::Global;

@@ -1,7 +1,7 @@
 //! Grounds just within bounds and just outside.
 
-use crate::{is_bounded, is_well_formed};
 use ep_ground::{Arena, Ground, Node, Term};
+use ep_reach::{is_bounded, is_well_formed};
 use std::alloc::Global;
 use std::test::Fail;
 
