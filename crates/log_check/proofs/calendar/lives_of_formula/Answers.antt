@@ -10,9 +10,9 @@ pub loop-index-preserved : goal.loop-index-preserved
 loop-index-preserved c =
     let clauses = c.args.clauses.now in
     let k = c.loop-index.index in
-    let inside : k < length clauses = omega (arith, c.loop-index-test.true, c.len.ensures) in
+    let inside : k < length clauses = omega (arith, c.loop-index-test.true, c.len-index-end.ensures) in
     tells_given c.loop-index.lives c.put.new.self c.args.until clauses k _ inside (c.clause.ensures.value ∙ get_or_default clauses k _ _ inside) c.loop-index.invariant c.in_ok-put.ensures
 
 pub returns : goal.returns
 returns c =
-    tells_formula c.loop-index.lives c.args.until c.args.clauses.now c.loop-index.index (omega (arith, c.loop-index-test.false, c.loop-index.auto.index-end, c.len.ensures)) c.loop-index.invariant
+    tells_formula c.loop-index.lives c.args.until c.args.clauses.now c.loop-index.index (omega (arith, c.loop-index-test.false, c.loop-index.auto.index-end, c.len-index-end.ensures)) c.loop-index.invariant
