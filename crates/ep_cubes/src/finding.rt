@@ -5,7 +5,7 @@ ghost use Rattle.cnf_core.specs.Formula.{Cnf};
 ghost use Rattle.ep_answer.specs.AnswerViews.{plain_answer};
 ghost use Rattle.ep_flat.specs.Flats.{MapsCells};
 ghost use Rattle.ep_flat.specs.FlatViews.{plain_map};
-ghost use Rattle.sat_cubes.specs.Answers.{IsCubed};
+ghost use Rattle.sat_cubes.specs.Answers.{ComesOfCubes};
 ghost use Rattle.ep_cubes.specs.Divided.{AnswersByCubes, IsFoundBy};
 
 use crate::reading::read_values;
@@ -27,7 +27,7 @@ fn answer_of(
     cubed: Cubed,
 ) -> Result<(CellAnswer, Log), Memory>
     requires { All (λ x. x < length layout.now) (plain_map cell_map.now).cells }
-    ensures { IfOk result (λ found. (f : Cnf) (most budget : ℕ) → IsCubed f most budget cubed
+    ensures { IfOk result (λ found. (f : Cnf) (most budget : ℕ) → ComesOfCubes f most budget cubed
         → IsFoundBy layout.now (plain_map cell_map.now) f most budget found.1.events (plain_answer found.0)) }
 {
     match cubed {

@@ -38,7 +38,7 @@ use Rattle.ep_solve.proofs.GivenLogs.{are-given, clauses-are, givens-are}
 use Rattle.ep_solve.proofs.Leaving.{Keeps, givens-append, kept, narrower, stands, tell-solutions, told}
 use Rattle.ep_solve.proofs.Solved.{SearchedFor, allows-after}
 use Rattle.ep_solve.proofs.Telling.{cells-meant, notes-told}
-use Rattle.ep_divided.specs.Divided.{AreToldInCube, IsLoggedInCubes, IsSolutionInCube, IsSpentInCube, ShowsInCubes}
+use Rattle.ep_divided.specs.Divided.{AreToldIn, IsLoggedAsDivided, IsSolutionInCube, IsSpentInCube, ShowsInCubes}
 
 -- ---- numbers that literals tell are the same
 
@@ -200,7 +200,7 @@ module _ (mode : Mode) (i : Instance) (most budget : ℕ) (h : AreSolvedFor mode
   -- ---- what the log shows
 
   -- numbers that an assignment gives the cells are told by the notes
-  are-told : (vars : List ℕ) (cube : ℕ) (s : ℕ → Bool) (cells : List ℤ) → Satisfies s (base_clauses h.log) → LiesInCube (cube_literals cube vars) s → decoded_cells h.layout h.variables s ≡ cells → AreToldInCube i h.log vars cube cells
+  are-told : (vars : List ℕ) (cube : ℕ) (s : ℕ → Bool) (cells : List ℤ) → Satisfies s (base_clauses h.log) → LiesInCube (cube_literals cube vars) s → decoded_cells h.layout h.variables s ≡ cells → AreToldIn i h.log.notes (base_clauses h.log) (cube_literals cube vars) cells
   are-told vars cube s cells met lies gives = record {
     assignment = s;
     satisfies = met;
@@ -250,13 +250,13 @@ module _ (mode : Mode) (i : Instance) (most budget : ℕ) (h : AreSolvedFor mode
     all-givens = ap givens split ∙ givens-append (all_given f.clauses) (all_given units ++ is.spent.steps) ∙ ap (λ (cs : List (List Literal)). cs ++ givens (all_given units ++ is.spent.steps)) (givens-are f.clauses) ∙ ap (λ (cs : List (List Literal)). f.clauses ++ cs) units-added
 
     -- what is left are the solutions that are told in the cube
-    left : TellSolutions mode i h.log.notes (givens h.log.events) (λ found. AreToldInCube i h.log vars is.cube (found_numbers found))
+    left : TellSolutions mode i h.log.notes (givens h.log.events) (λ found. AreToldIn i h.log.notes (base_clauses h.log) (cube_literals is.cube vars) (found_numbers found))
     left =
         tell-solutions mode i problem h.log keeps (givens h.log.events) (λ s met. narrower s h.log.base h.log.events met)
-        (λ numbers goal. AreToldInCube i h.log vars is.cube numbers) (λ found. AreToldInCube i h.log vars is.cube (found_numbers found)) (λ a s. (λ x. x, λ x. x))
+        (λ numbers goal. AreToldIn i h.log.notes (base_clauses h.log) (cube_literals is.cube vars) numbers) (λ found. AreToldIn i h.log.notes (base_clauses h.log) (cube_literals is.cube vars) (found_numbers found)) (λ a s. (λ x. x, λ x. x))
         (λ numbers goal. (to numbers goal, from numbers goal))
       where
-        to : (numbers : List ℤ) (goal : Option ℤ) → GivesCells h.layout h.variables (givens h.log.events) numbers goal → IsAllowed problem h.log numbers goal × AreToldInCube i h.log vars is.cube numbers
+        to : (numbers : List ℤ) (goal : Option ℤ) → GivesCells h.layout h.variables (givens h.log.events) numbers goal → IsAllowed problem h.log numbers goal × AreToldIn i h.log.notes (base_clauses h.log) (cube_literals is.cube vars) numbers
         to numbers goal gives =
             let s = gives.are_given.assignment in
             let met : Satisfies s (base_clauses h.log) = narrower s h.log.base h.log.events gives.are_given.satisfies in
@@ -267,7 +267,7 @@ module _ (mode : Mode) (i : Instance) (most budget : ℕ) (h : AreSolvedFor mode
                   gives.are_given.gives,
             )
 
-        from : (numbers : List ℤ) (goal : Option ℤ) → IsAllowed problem h.log numbers goal × AreToldInCube i h.log vars is.cube numbers → GivesCells h.layout h.variables (givens h.log.events) numbers goal
+        from : (numbers : List ℤ) (goal : Option ℤ) → IsAllowed problem h.log numbers goal × AreToldIn i h.log.notes (base_clauses h.log) (cube_literals is.cube vars) numbers → GivesCells h.layout h.variables (givens h.log.events) numbers goal
         from numbers goal both =
             let s = both.1.assignment in record {
               are_given = record {
@@ -324,7 +324,7 @@ module _ (mode : Mode) (i : Instance) (most budget : ℕ) (h : AreSolvedFor mode
   pub divided-new : NonEmptyStepsAreNew h.log.events
   divided-new = (shown h.answers.found_by.vars h.found h.answers.found_by.right).new
 
-  pub divided-logged : (answer : AnswerTree) → answer ≡ answer_from i.finds budget h.found → IsLoggedInCubes mode i most budget h.log answer
+  pub divided-logged : (answer : AnswerTree) → answer ≡ answer_from i.finds budget h.found → IsLoggedAsDivided mode i most budget h.log answer
   divided-logged answer same = record {
     divided = λ unstated. record {
       stands = log-stands;
@@ -338,7 +338,7 @@ module _ (mode : Mode) (i : Instance) (most budget : ℕ) (h : AreSolvedFor mode
   }
 
 -- with an objective nothing is divided
-pub undivided-logged : (mode : Mode) (i : Instance) (most budget : ℕ) (log : LogState) (answer : AnswerTree) → (i.goal ≡ None → ⊥) → IsLogged mode i budget log answer → IsLoggedInCubes mode i most budget log answer
+pub undivided-logged : (mode : Mode) (i : Instance) (most budget : ℕ) (log : LogState) (answer : AnswerTree) → (i.goal ≡ None → ⊥) → IsLogged mode i budget log answer → IsLoggedAsDivided mode i most budget log answer
 undivided-logged mode i most budget log answer stated logged = record { divided = λ unstated. absurd (stated unstated); undivided = λ other. logged }
 
 -- ---- whether an objective is stated

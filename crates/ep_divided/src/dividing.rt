@@ -4,7 +4,7 @@ ghost use Rattle.std.specs.Prelude.{◌≡◌, ◌≤◌, [], IfOk, map};
 ghost use Rattle.std.specs.List.{All};
 ghost use Rattle.cnf_core.specs.Steps.{IsValidLog, NonEmptyStepsAreNew};
 ghost use Rattle.ep_base.specs.Reads.{IsWithinNumbers};
-ghost use Rattle.ep_divided.specs.Divided.{IsLoggedInCubes};
+ghost use Rattle.ep_divided.specs.Divided.{IsLoggedAsDivided};
 ghost use Rattle.ep_instance_parts.specs.Instances.{plain_instance, instance_mode};
 ghost use Rattle.ep_print.specs.Answers.{HasTypedValues, answer_tree};
 ghost use Rattle.ep_solve.specs.Right.{IsRight, empty_log};
@@ -41,7 +41,7 @@ pub fn solve_in_cubes<R: Threads + Sync>(
         IsRight (instance_mode instance.now) (plain_instance instance.now) budget (answer_tree answer)) }
     ensures typed { IfOk result (λ answer. HasTypedValues (answer_tree answer)) }
     ensures logged { IfOk result (λ answer.
-        IsLoggedInCubes (instance_mode instance.now) (plain_instance instance.now) cubes budget log.new (answer_tree answer)) }
+        IsLoggedAsDivided (instance_mode instance.now) (plain_instance instance.now) cubes budget log.new (answer_tree answer)) }
     ensures valid { IsValidLog log.new.events }
     ensures new { NonEmptyStepsAreNew log.new.events }
 {

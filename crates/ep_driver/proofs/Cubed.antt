@@ -1,7 +1,7 @@
 -- Answers that come by cubes.
 use Rattle.std.proofs.Common.{◌≡◌, ◌⊎◌, ℕ, List, Option, Some, None, inl, inr, refl}
 use Rattle.cnf_core.specs.Events.{LogState}
-use Rattle.ep_divided.specs.Divided.{IsLoggedInCubes, ShowsInCubes}
+use Rattle.ep_divided.specs.Divided.{IsLoggedAsDivided, ShowsInCubes}
 use Rattle.ep_print.specs.Answers.{AnswerTree, answer_text, no_solution, optimum, solution, unknown, unknown_with}
 use Rattle.ep_solve.specs.Logged.{Stands}
 use Rattle.ep_solve.specs.Right.{IsRight, IsSpent}
@@ -30,7 +30,7 @@ shown-ends mode i vars conflicts log (unknown _) status e h = inr (e, h.spent, h
 shown-ends mode i vars conflicts log (unknown_with _ _ _) status e h = absurd h
 
 -- the log of an answer by cubes is valid, its steps with a literal are new, and it shows where the budget was spent
-pub divided-ends : (mode : Mode) (i : Instance) (cubes conflicts : ℕ) (log : LogState) (a : AnswerTree) (status : Status) → status ≡ answer_status a → IsLoggedInCubes mode i cubes conflicts log a → IsSearchedFor (Request.Divided cubes conflicts) status log
+pub divided-ends : (mode : Mode) (i : Instance) (cubes conflicts : ℕ) (log : LogState) (a : AnswerTree) (status : Status) → status ≡ answer_status a → IsLoggedAsDivided mode i cubes conflicts log a → IsSearchedFor (Request.Divided cubes conflicts) status log
 unfolding conflicts_wanted
 divided-ends mode i cubes conflicts log a status e h = elim (none-or i.goal) [
   | inl none ↦ let d = h.divided none in ((d.valid, d.new), shown-ends mode i d.vars conflicts log a status e d.shows)
@@ -38,13 +38,13 @@ divided-ends mode i cubes conflicts log a status e h = elim (none-or i.goal) [
 ]
 
 -- it stands for the instance
-pub divided-stands : (mode : Mode) (i : Instance) (cubes conflicts : ℕ) (log : LogState) (a : AnswerTree) → IsLoggedInCubes mode i cubes conflicts log a → Stands mode i log
+pub divided-stands : (mode : Mode) (i : Instance) (cubes conflicts : ℕ) (log : LogState) (a : AnswerTree) → IsLoggedAsDivided mode i cubes conflicts log a → Stands mode i log
 divided-stands mode i cubes conflicts log a h = elim (none-or i.goal) [
   | inl none ↦ (h.divided none).stands
   | inr some ↦ (h.undivided some).stands
 ]
 
-pub divided : (mode : Mode) (i : Instance) (cubes conflicts : ℕ) (status : Status) (text : List ℕ) (log : LogState) (a : AnswerTree) → IsRight mode i conflicts a → IsLoggedInCubes mode i cubes conflicts log a
+pub divided : (mode : Mode) (i : Instance) (cubes conflicts : ℕ) (status : Status) (text : List ℕ) (log : LogState) (a : AnswerTree) → IsRight mode i conflicts a → IsLoggedAsDivided mode i cubes conflicts log a
     → status ≡ answer_status a → text ≡ answer_text a → Settles (to_divide mode i cubes conflicts) status text log
 unfolding Settles
 divided mode i cubes conflicts status text log a right logged ended said = (a, right, logged, ended, said)

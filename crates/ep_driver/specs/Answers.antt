@@ -10,7 +10,7 @@ use Rattle.cnf_core.specs.Events.{LogState}
 use Rattle.log_check.specs.Verdict.{verdict_of}
 use Rattle.log_check.specs.declared.Verdict.{Verdict}
 use Rattle.log_check.specs.declared.Verdict.TheVariants.{BadStep, NoEmptyClause, Verified}
-use Rattle.ep_divided.specs.Divided.{IsLoggedInCubes}
+use Rattle.ep_divided.specs.Divided.{IsLoggedAsDivided}
 use Rattle.ep_explain.specs.Tried.{IsLogOfAttempt, IsRightExplanation, ends_spent}
 use Rattle.ep_explain.specs.declared.explaining.Explained.{Explained}
 use Rattle.ep_explain_text.specs.ExplanationTexts.{explanation_text}
@@ -75,7 +75,7 @@ SettlesBy text_of mode i conflicts status text log =
 unfoldable pub Settles : Task → Status → List ℕ → LogState → Type 0
 Settles (to_solve mode i conflicts) status text log = SettlesBy answer_text mode i conflicts status text log
 Settles (to_divide mode i cubes conflicts) status text log =
-    (answer : AnswerTree) × IsRight mode i conflicts answer × IsLoggedInCubes mode i cubes conflicts log answer
+    (answer : AnswerTree) × IsRight mode i conflicts answer × IsLoggedAsDivided mode i cubes conflicts log answer
     × (status ≡ answer_status answer) × (text ≡ answer_text answer)
 Settles (to_list mode i most conflicts) status text log =
     (listing : ListingTree) × Lists mode i conflicts most log listing

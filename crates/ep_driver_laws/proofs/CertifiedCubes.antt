@@ -4,7 +4,7 @@ use Rattle.std.proofs.Math.Seq.{drop-append_seam}
 use Rattle.cnf_core.specs.Events.{LogState, Note, givens}
 use Rattle.cnf_core.specs.Literal.{Literal}
 use Rattle.cnf_core.specs.LogLines.{log_lines}
-use Rattle.ep_divided.specs.Divided.{AreToldInCube, IsDivided, IsSpentInCube, ShowsInCubes}
+use Rattle.ep_divided.specs.Divided.{AreToldIn, IsLoggedByCubes, IsSpentInCube, ShowsInCubes}
 use Rattle.ep_print.specs.Answers.{AnswerTree, no_solution, optimum, solution, unknown, unknown_with}
 use Rattle.ep_solve.specs.Logged.{AreWanted, Stands, TellSolutions, added_clauses}
 use Rattle.ep_tree.specs.Binding.{Instance}
@@ -16,15 +16,8 @@ use Rattle.cnf_core.specs.Steps.{IsValidLog}
 use Rattle.sat_split.specs.Cubes.{AreCubeVariables, cube_literals, unit_of}
 use Rattle.sat_text.specs.CnfGrammar.{SpellsCnf}
 use Rattle.ep_outputs.specs.Outputs.{IsFormulaText, IsStepsText, NotesUpTo}
-use Rattle.ep_driver_laws.specs.Certificates.{AreToldIn, CertifiesByCubes, CertifiesCube, CubesCertify, IsCertified, Verifies, own_clauses, read_added, read_notes}
+use Rattle.ep_driver_laws.specs.Certificates.{CertifiesByCubes, CertifiesCube, CubesCertify, IsCertified, Verifies, own_clauses, read_added, read_notes}
 use Rattle.ep_driver_laws.proofs.Certified.{AcceptsValid, VerifiesClosed, few_added, formula_certifies, givens_cut, own_givens, own_leave, steps_verify}
-
--- what is wanted may be said in other words
-other_words : (mode : Mode) (i : Instance) (notes : List Note) (clauses : List (List Literal)) (A B : Found → Type 0) → ((f : Found) → A f → B f) → ((f : Found) → B f → A f) → TellSolutions mode i notes clauses A → TellSolutions mode i notes clauses B
-other_words mode i notes clauses A B to from t = record {
-  sound = λ s met. let it = t.sound s met in (it.0, it.1, record { assigned = it.2.assigned; solves = it.2.solves; numbers_are = it.2.numbers_are; is_wanted = to it.2.solves.found it.2.is_wanted });
-  complete = λ a solves wanted. t.complete a solves (from solves.found wanted);
-}
 
 -- the clauses behind those that stand for the instance
 added_givens : (log : LogState) → drop (length (givens log.events) - length (added_clauses log)) (givens log.events) ≡ added_clauses log
@@ -52,10 +45,6 @@ module _ (accepts : AcceptsValid) (verifies : VerifiesClosed) (mode : Mode) (i :
       let own : base ≡ own_clauses text all = sym (own_givens log) ∙ ap (λ (n : ℕ). take (length all - n) all) count in
       let literals = cube_literals is.cube vars in
       let Told : List Note → List (List Literal) → Found → Type 0 = λ ns cs f. AreToldIn i ns cs literals (found_numbers f) in
-      let left : TellSolutions mode i log.notes all (Told log.notes base)
-      = other_words mode i log.notes all (λ f. AreToldInCube i log vars is.cube (found_numbers f)) (Told log.notes base)
-      (λ f h. record { assignment = h.assignment; satisfies = h.satisfies; lies_in = h.lies_in; tell = h.tell })
-      (λ f h. record { assignment = h.assignment; satisfies = h.satisfies; lies_in = h.lies_in; tell = h.tell }) is.left in
       record {
         vars = t.formula.vars;
         clauses = all;
@@ -70,7 +59,7 @@ module _ (accepts : AcceptsValid) (verifies : VerifiesClosed) (mode : Mode) (i :
         stands = subst (λ (ns : List Note). TellSolutions mode i ns (own_clauses text all) (λ found. Unit {0})) notes
             (subst (λ (cs : List (List Literal)). TellSolutions mode i log.notes cs (λ found. Unit {0})) own stands.told);
         leaves = subst (λ (ns : List Note). TellSolutions mode i ns all (Told ns (own_clauses text all))) notes
-            (subst (λ (cs : List (List Literal)). TellSolutions mode i log.notes all (Told log.notes cs)) own left);
+            (subst (λ (cs : List (List Literal)). TellSolutions mode i log.notes all (Told log.notes cs)) own is.left);
         verifies = λ steps s. steps_verify accepts verifies log ⊥ (λ none. absurd none) text steps is.sound.valid t s;
       }
 

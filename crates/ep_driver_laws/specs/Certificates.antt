@@ -1,23 +1,22 @@
 -- What the files of a search say to a reader who has nothing but their bytes.
 use Rattle.std.specs.Prelude.{◌≡◌, ◌<◌, ◌≤◌, ◌-◌, ◌^◌, ℕ, ℤ, Bool, List, [], drop, length, map, take, None, Some}
-use Rattle.cnf_core.specs.Clauses.{Satisfies}
 use Rattle.cnf_core.specs.Events.{LogState, Note}
 use Rattle.cnf_core.specs.Lines.{ProofLine}
 use Rattle.cnf_core.specs.Literal.{Literal}
 use Rattle.ep_base.specs.Outside.{Held}
 use Rattle.ep_print.specs.Listings.{EndTree, ListingTree, complete, spent, stopped}
 use Rattle.ep_print.specs.Answers.{AnswerTree, no_solution, optimum, solution, unknown, unknown_with}
-use Rattle.ep_divided.specs.Divided.{IsDivided}
+use Rattle.ep_divided.specs.Divided.{AreToldIn, IsLoggedByCubes}
 use Rattle.ep_solve.specs.Listed.{IsUnlisted, Lists}
-use Rattle.ep_solve.specs.Logged.{IsBetterSolution, IsLogged, TellNumbers, TellSolutions}
+use Rattle.ep_solve.specs.Logged.{IsBetterSolution, IsLogged, TellSolutions}
 use Rattle.ep_tree.specs.Binding.{Instance}
 use Rattle.ep_tree.specs.Solutions.{Found}
 use Rattle.ep_tree.specs.declared.values.Mode.{Mode}
-use Rattle.ep_unroll.specs.Cells.{found_numbers, instance_cells}
+use Rattle.ep_unroll.specs.Cells.{found_numbers}
 use Rattle.log_check.specs.Verdict.{first_bad, verdict_of}
 use Rattle.log_check.specs.declared.Verdict.{Verdict}
 use Rattle.log_check.specs.declared.Verdict.TheVariants.{Verified}
-use Rattle.sat_split.specs.Cubes.{AreCubeVariables, LiesInCube, cube_literals, unit_of}
+use Rattle.sat_split.specs.Cubes.{AreCubeVariables, cube_literals, unit_of}
 use Rattle.sat_text.specs.CnfGrammar.{SpellsCnf}
 use Rattle.sat_text.specs.LogGrammar.{SpellsLog}
 use Rattle.sat_text.specs.Notes.{added_of, notes_of}
@@ -114,13 +113,6 @@ ListsCertify =
 abbrev pub own_clauses : List ℕ → List (List Literal) → List (List Literal)
 own_clauses text clauses = take (length clauses - read_added text) clauses
 
--- Under an assignment in a cube that satisfies clauses, notes tell these numbers of an instance's cells.
-pub record AreToldIn (i : Instance) (notes : List Note) (clauses : List (List Literal)) (cube : List Literal) (numbers : List ℤ) : Type 0 where
-  pub assignment : ℕ → Bool
-  pub satisfies : Satisfies assignment clauses
-  pub lies_in : LiesInCube cube assignment
-  pub tell : TellNumbers assignment notes (instance_cells i) numbers
-
 -- What the bytes of a formula's text say where the conflicts of a cube were spent. The clauses that were added are the cube's literals, one
 -- each, over the lowest variables that stand in the clauses before them, at most so many. By the lines of cells the assignments that
 -- satisfy these clauses tell exactly the instance's solutions, and the assignments that satisfy all clauses tell exactly the solutions that
@@ -152,7 +144,7 @@ CertifiesByCubes mode i most log (unknown_with conflicts value a) text = ⊥
 -- so it is of a log that shows an answer by cubes, over at most so many variables
 abbrev pub CubesCertify : Type 0
 CubesCertify =
-    (mode : Mode) (i : Instance) (most conflicts : ℕ) (log : LogState) (answer : AnswerTree) → IsDivided mode i most conflicts log answer
+    (mode : Mode) (i : Instance) (most conflicts : ℕ) (log : LogState) (answer : AnswerTree) → IsLoggedByCubes mode i most conflicts log answer
     → (text : List ℕ) → IsFormulaText log text → CertifiesByCubes mode i most log answer text
 
 -- ---- the check

@@ -13,7 +13,7 @@ use Rattle.join_cubes.specs.Texts.{HasFormula, IsProofText, IsShortFormulaText, 
 use Rattle.log_check.proofs.Accepted.{closed_is_verified}
 use Rattle.log_check.specs.Verdict.{verdict_of}
 use Rattle.log_check.specs.declared.Verdict.TheVariants.{Verified}
-use Rattle.sat_join.specs.Joins.{Divides, IsJoined}
+use Rattle.sat_join.specs.Joins.{Divides, IsLogOfClauses}
 use Rattle.sat_search.specs.Logs.{EndsWithEmptyStep}
 use Rattle.sat_split.specs.Cubes.{AreCubeVariables, all_given}
 use Rattle.sat_text.specs.CnfGrammar.{SpellsCnf}
@@ -31,7 +31,7 @@ given_first : (clauses : List (List Literal)) (steps : List LogEvent) → All (�
 given_first [] steps all = steps_give_none steps all
 given_first (clause ∷ clauses) steps all = ap (λ (cs : List (List Literal)). clause ∷ cs) (given_first clauses steps all)
 
-pub proves : (clauses : List (List Literal)) (events : List LogEvent) (text : List ℕ) → IsJoined clauses events → EndsWithEmptyStep events → SpellsLog text (log_lines events) → IsProofText clauses text
+pub proves : (clauses : List (List Literal)) (events : List LogEvent) (text : List ℕ) → IsLogOfClauses clauses events → EndsWithEmptyStep events → SpellsLog text (log_lines events) → IsProofText clauses text
 proves clauses events text joined ends spelled =
     let are : givens events ≡ clauses = ap givens joined.events_are ∙ given_first clauses joined.steps joined.are_steps in
     record {

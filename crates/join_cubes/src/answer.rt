@@ -4,7 +4,7 @@ ghost use Rattle.std.specs.Prelude.{◌≡◌, ◌+◌, ◌^◌, ◌<◌, ◌≤
 ghost use Rattle.ep_base.specs.Outside.{Held, ReadGives};
 ghost use Rattle.join_cubes.specs.Texts.{HasFormula, IsProofText, IsShortFormulaText, ProvesFirst};
 ghost use Rattle.join_cubes.specs.declared.answer.TheConstants.{MOST_VARIABLES};
-ghost use Rattle.sat_join.specs.Joins.{Divides, IsJoined, IsJoint};
+ghost use Rattle.sat_join.specs.Joins.{Divides, IsLogOfClauses, RefutesCubes};
 ghost use Rattle.sat_search.specs.Logs.{EndsWithEmptyStep};
 
 use crate::refusal::{Refusal, Source};
@@ -106,8 +106,8 @@ fn join_file<F: Files>(
 ) -> Result<(), Refusal>
     requires divides { Divides formula.now.clauses vars.now }
     requires is_cube { length ends.old.items < 2 ^ length vars.now }
-    requires joint { IsJoint formula.now.clauses vars.now ends.old.items joined.old.events }
-    ensures joint { OnOk result (IsJoint formula.now.clauses vars.now ends.new.items joined.new.events) }
+    requires joint { RefutesCubes formula.now.clauses vars.now ends.old.items joined.old.events }
+    ensures joint { OnOk result (RefutesCubes formula.now.clauses vars.now ends.new.items joined.new.events) }
     ensures count { OnOk result (length ends.new.items ≡ length ends.old.items + 1) }
 {
     let cube = ends.len() as u64;
@@ -128,7 +128,7 @@ fn join_all<F: Files>(
 ) -> Result<Log, Refusal>
     requires divides { Divides formula.now.clauses vars.now }
     requires count { length names.now ≡ 2 ^ length vars.now }
-    ensures joined { IfOk result (λ log. IsJoined formula.now.clauses log.events) }
+    ensures joined { IfOk result (λ log. IsLogOfClauses formula.now.clauses log.events) }
     ensures ends { IfOk result (λ log. EndsWithEmptyStep log.events) }
 {
     let mut joined = begin(alloc, formula)?;

@@ -14,7 +14,7 @@ use Rattle.cnf_core.proofs.Following.{step_follows, clauses_of-push}
 use Rattle.sat_search.specs.Logs.{EndsWithEmptyStep}
 use Rattle.sat_search.proofs.Continued.{sound_givens}
 use Rattle.sat_split.specs.Cubes.{AreCubeVariables, cube_literals, LiesInCube, all_given}
-use Rattle.sat_join.specs.Joins.{clause_at, IsRefutedAt, IsJoined, IsJoint, IsOfCubes, Divides, CanJoin, KeepsNew}
+use Rattle.sat_join.specs.Joins.{clause_at, IsRefutedAt, IsLogOfClauses, RefutesCubes, IsOfCubes, Divides, CanJoin, KeepsNew}
 use Rattle.sat_cubes.specs.Answers.{IsRefutedIn, IsJoinedLog, IsRefutedWithin, AreRefutedWithin, IsSatIn, IsUnsat, IsSpentIn}
 use Rattle.sat_cubes.specs.Solving.{IsModelIn, IsRefuted, IsSpentLog, IsSoFar, IsSolved, IsOpen, AreSolved, AreRefuted}
 use Rattle.sat_cubes.specs.declared.solving.Solved.{Solved}
@@ -63,7 +63,7 @@ may_join f vars ends joined refuted so_far within is = record {
 
 -- one more is
 pub so_far_more : (f : Cnf) (vars ends more : List ℕ) (joined new refuted : LogState) → IsSoFar f vars ends joined → length ends < 2 ^ length vars → IsRefuted f (cube_literals (length ends) vars) refuted
-    → IsJoint f.clauses vars more new.events → (NonEmptyStepsAreEffective refuted.events → KeepsNew joined.events new.events) → length more ≡ length ends + 1 → new.notes ≡ joined.notes → new.base ≡ joined.base → IsSoFar f vars more new
+    → RefutesCubes f.clauses vars more new.events → (NonEmptyStepsAreEffective refuted.events → KeepsNew joined.events new.events) → length more ≡ length ends + 1 → new.notes ≡ joined.notes → new.base ≡ joined.base → IsSoFar f vars more new
 so_far_more f vars ends more joined new refuted so_far within is joint keeps count notes base = record {
   divides = so_far.divides;
   joint = joint;
@@ -141,7 +141,7 @@ no_givens [] all = refl
 no_givens (given clause ∷ steps) all = absurd (false≢true (sym (All-head (λ e. is_given e ≡ false) (given clause) steps all)))
 no_givens (step clause hints ∷ steps) all = no_givens steps (All-tail (λ e. is_given e ≡ false) (step clause hints) steps all)
 
-pub ends_unsat : (f : Cnf) (vars : List ℕ) (budget : ℕ) (events : List LogEvent) → AreRefutedWithin f.clauses vars (2 ^ length vars) budget → IsJoined f.clauses events → NonEmptyStepsAreNew events → EndsWithEmptyStep events → IsUnsat f vars budget events
+pub ends_unsat : (f : Cnf) (vars : List ℕ) (budget : ℕ) (events : List LogEvent) → AreRefutedWithin f.clauses vars (2 ^ length vars) budget → IsLogOfClauses f.clauses events → NonEmptyStepsAreNew events → EndsWithEmptyStep events → IsUnsat f vars budget events
 ends_unsat f vars budget events refuted joined new ends = record {
   none = λ s satisfied.
       let found = step_follows s ends.before [] [] ends.hints (subst IsValidLog ends.events_are joined.valid) (subst (Satisfies s) (sym before) satisfied) in

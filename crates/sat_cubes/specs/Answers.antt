@@ -91,7 +91,7 @@ AnswersCubes f budget vars (Unsat log) = IsUnsat f vars budget log.events × IsU
 AnswersCubes f budget vars (Spent cube log) = IsSpentIn f vars cube budget log.events × IsUnmarked log
 
 -- what comes of the cubes over the cube variables, at most so many of these, each cube within the budget
-pub record IsCubed (f : Cnf) (most budget : ℕ) (cubed : Cubed) : Type 0 where
+pub record ComesOfCubes (f : Cnf) (most budget : ℕ) (cubed : Cubed) : Type 0 where
   pub vars : List ℕ
   pub are : AreCubeVariables most f.clauses vars
   pub answer : AnswersCubes f budget vars cubed

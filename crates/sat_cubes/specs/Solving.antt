@@ -8,12 +8,12 @@ use Rattle.cnf_core.specs.Steps.{NonEmptyStepsAreNew}
 use Rattle.sat_search.specs.Logs.{IsSound, NoneIsEmpty}
 use Rattle.sat_search.specs.View.{value_in}
 use Rattle.sat_split.specs.Cubes.{cube_literals, LiesInCube, cube_log}
-use Rattle.sat_join.specs.Joins.{IsRefutation, Divides, IsJoint}
+use Rattle.sat_join.specs.Joins.{IsRefutation, Divides, RefutesCubes}
 use Rattle.sat_cubes.specs.Answers.{is_variable_true, NoneBelow}
 use Rattle.sat_cubes.specs.declared.solving.Solved.{Solved}
 use Rattle.sat_cubes.specs.declared.solving.Solved.TheVariants.{Sat, Unsat, Spent}
-use Rattle.sat_cubes.specs.declared.solving.Left.{Left}
-use Rattle.sat_cubes.specs.declared.solving.Left.TheVariants as left
+use Rattle.sat_cubes.specs.declared.solving.OpenCube.{OpenCube}
+use Rattle.sat_cubes.specs.declared.solving.OpenCube.TheVariants as unrefuted
 use Rattle.ep_base.specs.declared.errors.Memory.{Memory}
 
 -- the values of the variables from 1 on are those that these literals give them
@@ -51,9 +51,9 @@ IsSolved f literals budget (Unsat log) = IsRefuted f literals log × (nonempty_s
 IsSolved f literals budget (Spent log) = IsSpentLog f literals budget log
 
 -- what is known of a cube that isn't refuted
-abbrev pub IsLeft : Cnf → List Literal → ℕ → Left → Type 0
-IsLeft f literals budget (left.Sat values) = IsModelIn f literals values.items
-IsLeft f literals budget (left.Spent log) = IsSpentLog f literals budget log
+abbrev pub IsOpenCube : Cnf → List Literal → ℕ → OpenCube → Type 0
+IsOpenCube f literals budget (unrefuted.Sat values) = IsModelIn f literals values.items
+IsOpenCube f literals budget (unrefuted.Spent log) = IsSpentLog f literals budget log
 
 -- a cube isn't refuted
 abbrev pub IsOpen : Solved → Type 0
@@ -74,7 +74,7 @@ AreSolved f vars first budget wave =
 -- the first cubes are refuted and joined
 pub record IsSoFar (f : Cnf) (vars ends : List ℕ) (joined : LogState) : Type 0 where
   pub divides : Divides f.clauses vars
-  pub joint : IsJoint f.clauses vars ends joined.events
+  pub joint : RefutesCubes f.clauses vars ends joined.events
   pub new : NonEmptyStepsAreNew joined.events
   pub none_below : NoneBelow f.clauses vars (length ends)
   pub within : length ends ≤ 2 ^ length vars

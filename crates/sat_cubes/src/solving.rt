@@ -24,7 +24,7 @@ pub enum Solved {
 
 /// A cube that isn't refuted.
 #[derive(Debug, Drop)]
-pub enum Left {
+pub enum OpenCube {
     /// Values of the formula's variables that satisfy it, in the cube.
     Sat(Vec<bool>),
     /// The log of a cube whose budget is spent.

@@ -5,12 +5,12 @@ ghost use Rattle.cnf_core.specs.Literal.{Literal};
 ghost use Rattle.cnf_core.specs.Formula.{Cnf};
 ghost use Rattle.sat_split.specs.Cubes.{cube_literals};
 ghost use Rattle.sat_join.specs.Joins.{Divides};
-ghost use Rattle.sat_cubes.specs.Answers.{AnswersCubes, AreRefutedWithin, IsCubed};
-ghost use Rattle.sat_cubes.specs.Solving.{AreRefuted, AreSolved, IsLeft, IsOpen, IsSoFar, IsSolved};
+ghost use Rattle.sat_cubes.specs.Answers.{AnswersCubes, AreRefutedWithin, ComesOfCubes};
+ghost use Rattle.sat_cubes.specs.Solving.{AreRefuted, AreSolved, IsOpenCube, IsOpen, IsSoFar, IsSolved};
 
 use crate::cubed::Cubed;
 use crate::gate::CubeGate;
-use crate::solving::{Left, Solved, solve_cube};
+use crate::solving::{OpenCube, Solved, solve_cube};
 use cnf_core::{Formula, Log};
 use ep_base::Memory;
 use sat_join::{close, join_cube};
@@ -93,13 +93,13 @@ fn refuted_log(solved: &Result<Solved, Memory>) -> Option<&Log>
 }
 
 // A cube that isn't refuted.
-fn left_of(solved: Solved) -> Left
+fn left_of(solved: Solved) -> OpenCube
     requires { IsOpen solved }
-    ensures { (f : Cnf) (literals : List Literal) (budget : ℕ) → IsSolved f literals budget solved → IsLeft f literals budget result }
+    ensures { (f : Cnf) (literals : List Literal) (budget : ℕ) → IsSolved f literals budget solved → IsOpenCube f literals budget result }
 {
     match solved {
-        Solved::Sat(values) => Left::Sat(values),
-        Solved::Spent(log) => Left::Spent(log),
+        Solved::Sat(values) => OpenCube::Sat(values),
+        Solved::Spent(log) => OpenCube::Spent(log),
         Solved::Unsat(_) => unreachable!(),
     }
 }
@@ -144,7 +144,7 @@ fn go_on<R: Threads + Sync, G: CubeGate>(
     gate: &G,
     joined: &mut Log,
     ends: &mut Vec<u64>,
-) -> Result<Option<Left>, Memory>
+) -> Result<Option<OpenCube>, Memory>
     requires so_far { IsSoFar formula.now vars.now ends.old.items joined.old }
     requires room { length ends.old.items + count ≤ 2 ^ length vars.now }
     requires fits { 2 ^ length vars.now < 2 ^ 64 }
@@ -152,7 +152,7 @@ fn go_on<R: Threads + Sync, G: CubeGate>(
     ensures so_far { OnOk result (IsSoFar formula.now vars.now ends.new.items joined.new) }
     ensures refuted_within { OnOk result (AreRefutedWithin formula.now.clauses vars.now (length ends.new.items) budget) }
     ensures left { IfOk result (λ left. IfSome left (λ one. (length ends.new.items < 2 ^ length vars.now)
-        × IsLeft formula.now (cube_literals (length ends.new.items) vars.now) budget one)) }
+        × IsOpenCube formula.now (cube_literals (length ends.new.items) vars.now) budget one)) }
     ensures all { IfOk result (λ left. IfNone left (length ends.new.items ≡ length ends.old.items + count)) }
 {
     let mut wave = solve_wave(rt, alloc, formula, vars, ends.len(), count, budget, gate)?;
@@ -165,17 +165,17 @@ fn go_on<R: Threads + Sync, G: CubeGate>(
 }
 
 // What comes of all cubes, where those below one are refuted and joined, and it isn't.
-fn ended(left: Left, cube: u64, joined: Log) -> Cubed
+fn ended(left: OpenCube, cube: u64, joined: Log) -> Cubed
     ensures { (f : Cnf) (vars ends : List ℕ) (budget : ℕ) → IsSoFar f vars ends joined → AreRefutedWithin f.clauses vars (length ends) budget
-        → cube ≡ length ends → length ends < 2 ^ length vars → IsLeft f (cube_literals (length ends) vars) budget left → AnswersCubes f budget vars result }
+        → cube ≡ length ends → length ends < 2 ^ length vars → IsOpenCube f (cube_literals (length ends) vars) budget left → AnswersCubes f budget vars result }
 {
     match left {
-        Left::Sat(values) => Cubed::Sat {
+        OpenCube::Sat(values) => Cubed::Sat {
             cube,
             values,
             log: joined,
         },
-        Left::Spent(log) => Cubed::Spent { cube, log },
+        OpenCube::Spent(log) => Cubed::Spent { cube, log },
     }
 }
 
@@ -194,7 +194,7 @@ pub fn solve_cubes<R: Threads + Sync, G: CubeGate>(
     gate: &G,
 ) -> Result<Cubed, Memory>
     requires { cubes ≤ 6 }
-    ensures { IfOk result (λ cubed. IsCubed formula.now cubes budget cubed) }
+    ensures { IfOk result (λ cubed. ComesOfCubes formula.now cubes budget cubed) }
 {
     // What each formula keeps of its clauses, `clauses` promises of this one too.
     let _clauses = formula.clauses();

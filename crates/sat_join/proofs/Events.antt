@@ -10,7 +10,7 @@ use Rattle.cnf_core.specs.Steps.{IsValidStep, IsNewStep}
 use Rattle.cnf_core.proofs.Events.{EachStep-step, clauses_push}
 use Rattle.cnf_core.proofs.Following.{clauses_of-push}
 use Rattle.sat_split.specs.Cubes.{all_given}
-use Rattle.sat_join.specs.Joins.{clause_at, IsRefutedAt, IsJoined, KeepsNew}
+use Rattle.sat_join.specs.Joins.{clause_at, IsRefutedAt, IsLogOfClauses, KeepsNew}
 
 pub clause_at-left : (events : List LogEvent) (e : LogEvent) (place : ℕ) → place < length events → clause_at (events ++ e ∷ []) place ≡ clause_at events place
 clause_at-left events e place there =
@@ -59,7 +59,7 @@ pub new_step : (events : List LogEvent) (clause : List Literal) (hints : List �
 new_step events clause hints new before = EachStep-step (λ earlier c hs. 0 < length c → IsNewStep earlier c) [] events clause hints before new
 
 -- a step at the end of a joined log
-pub joined_step : (clauses : List (List Literal)) (events : List LogEvent) (clause : List Literal) (hints : List ℕ) → IsJoined clauses events → IsClause clause → IsValidStep events clause hints → IsJoined clauses (events ++ step clause hints ∷ [])
+pub joined_step : (clauses : List (List Literal)) (events : List LogEvent) (clause : List Literal) (hints : List ℕ) → IsLogOfClauses clauses events → IsClause clause → IsValidStep events clause hints → IsLogOfClauses clauses (events ++ step clause hints ∷ [])
 joined_step clauses events clause hints joined is valid = record {
   steps = joined.steps ++ step clause hints ∷ [];
   events_are = ap (λ (es : List LogEvent). es ++ step clause hints ∷ []) joined.events_are ∙ append_assoc (all_given clauses) joined.steps (step clause hints ∷ []);

@@ -11,7 +11,7 @@ use Rattle.cnf_core.proofs.Members.{All-from_contains, Contains-here, Contains-t
 use Rattle.cnf_core.proofs.Following.{EachStep-split, clauses_of-push}
 use Rattle.sat_split.specs.Cubes.{cube_literals, all_given, unit_of, cube_log}
 use Rattle.sat_split.proofs.Cubes.{cubes_differ}
-use Rattle.sat_join.specs.Joins.{clause_at, IsRefutedAt, IsJoined, IsJoint, KeepsNew, IsOfCubes, HasNegations, Divides, ArePlaces, IsWidened, Refutes}
+use Rattle.sat_join.specs.Joins.{clause_at, IsRefutedAt, IsLogOfClauses, RefutesCubes, KeepsNew, IsOfCubes, HasNegations, Divides, ArePlaces, IsWidened, Refutes}
 use Rattle.sat_join.proofs.Wider.{Contains-map, wide_shown}
 use Rattle.sat_join.proofs.News.{AreApart, ComesFrom, new_wide}
 use Rattle.sat_join.proofs.Events.{clause_at-left, clause_at-push, refuted_left, givens_before, clauses-given, joined_step, new_step}
@@ -50,7 +50,7 @@ pub record IsJoining (clauses : List (List Literal)) (vars ends : List ℕ) (lit
   pub before_is : before ≡ (cube_log clauses literals).events ++ part
   pub part_steps : All (λ e. is_given e ≡ false) part
   pub follows : Follows clauses literals first before joined
-  pub is_joined : IsJoined clauses joined
+  pub is_joined : IsLogOfClauses clauses joined
   pub refuted : (c : ℕ) → c < length ends → IsRefutedAt joined (cube_literals c vars) (get_or ends c 0)
   pub origins : (other : List Literal) → Contains (clauses_of joined) other → IsOfCubes clauses vars (length ends) other ⊎ IsOfThis before literals other
 
@@ -67,7 +67,7 @@ length_cube clauses literals =
     omega (arith, ap (λ (es : List LogEvent). length es) (cube_given clauses literals), length-map (begun clauses literals) given, length_begun clauses literals)
 
 -- what follows at the beginning
-follows_begun : (clauses : List (List Literal)) (literals : List Literal) (first : ℕ) (joined : List LogEvent) → IsJoined clauses joined → first ≡ length joined → Follows clauses literals first (cube_log clauses literals).events joined
+follows_begun : (clauses : List (List Literal)) (literals : List Literal) (first : ℕ) (joined : List LogEvent) → IsLogOfClauses clauses joined → first ≡ length joined → Follows clauses literals first (cube_log clauses literals).events joined
 follows_begun clauses literals first joined is at = record {
   counted = omega (arith, at, length_cube clauses literals);
   whole = omega (arith, length_cube clauses literals);
@@ -91,7 +91,7 @@ follows_begun clauses literals first joined is at = record {
     cube_clauses : clauses_of (cube_log clauses literals).events ≡ begun clauses literals
     cube_clauses = ap clauses_of (cube_given clauses literals) ∙ clauses-given (begun clauses literals)
 
-pub joining_begun : (clauses : List (List Literal)) (vars ends : List ℕ) (literals : List Literal) (first : ℕ) (joined : List LogEvent) → IsJoint clauses vars ends joined → first ≡ length joined → IsJoining clauses vars ends literals first (cube_log clauses literals).events joined
+pub joining_begun : (clauses : List (List Literal)) (vars ends : List ℕ) (literals : List Literal) (first : ℕ) (joined : List LogEvent) → RefutesCubes clauses vars ends joined → first ≡ length joined → IsJoining clauses vars ends literals first (cube_log clauses literals).events joined
 joining_begun clauses vars ends literals first joined joint at = record {
   part = [];
   before_is = sym (append-nil (cube_log clauses literals).events);
@@ -254,11 +254,11 @@ module _ (clauses : List (List Literal)) (vars ends : List ℕ) (literals : List
 
   -- the cube's last step, without a literal, is joined where no event says as much
   pub joint_next : (hints places : List ℕ) (old new : LogState) (place : ℕ) → old.events ≡ joined → IsValidStep before [] hints → ArePlaces clauses literals first hints places → Refutes old new literals places place
-      → IsJoint clauses vars (ends ++ place ∷ []) new.events × KeepsNew joined new.events
+      → RefutesCubes clauses vars (ends ++ place ∷ []) new.events × KeepsNew joined new.events
   joint_next hints places old new place is valid placed refutes =
       let mirror = places_mirror clauses literals first before joined joining.follows joining.is_joined.are_clauses hints places placed valid.hints_are_there in
       let done : IsRefuting clauses literals place old.events new.events =
-      refuting clauses vars (length ends) literals are divides places old new place (subst (IsJoined clauses) (sym is) joining.is_joined)
+      refuting clauses vars (length ends) literals are divides places old new place (subst (IsLogOfClauses clauses) (sym is) joining.is_joined)
       (λ wide same consistent. subst (λ (es : List LogEvent). IsValidStep es wide places) (sym is) (record {
         hints_are_there = mirror.0;
         shown = wide_shown literals [] wide (clauses_at before hints) (clauses_at joined places) mirror.1

@@ -15,7 +15,7 @@ use Rattle.cnf_core.proofs.Readings.{reading_goes_on, reading_ends, shown_by_rea
 use Rattle.sat_search.specs.Logs.{EndsWithEmptyStep, with_step}
 use Rattle.sat_split.specs.Cubes.{IsNamed, cube_literals, IsFalseIn}
 use Rattle.sat_split.proofs.Cubes.{pairs_tail, twice_as_many}
-use Rattle.sat_join.specs.Joins.{clause_at, IsRefutedAt, IsJoined, IsJoint, IsClosing, KeepsNew, Divides, Refutes}
+use Rattle.sat_join.specs.Joins.{clause_at, IsRefutedAt, IsLogOfClauses, RefutesCubes, IsClosing, KeepsNew, Divides, Refutes}
 use Rattle.sat_join.proofs.Wider.{Contains-map}
 use Rattle.sat_join.proofs.Events.{joined_step, new_step}
 use Rattle.sat_join.proofs.Refuting.{IsRefuting, refuting}
@@ -69,7 +69,7 @@ divides_tail clauses v vars divides = record {
 
 -- so many pairs of cubes are refuted
 pub record IsHalfDone (clauses : List (List Literal)) (v : ℕ) (vars ends halves : List ℕ) (start events : List LogEvent) : Type 0 where
-  pub joined : IsJoined clauses events
+  pub joined : IsLogOfClauses clauses events
   pub new_steps : KeepsNew start events
   pub ends_refuted : (c : ℕ) → c < length ends → IsRefutedAt events (cube_literals c (v ∷ vars)) (get_or ends c 0)
   pub halves_refuted : (c : ℕ) → c < length halves → IsRefutedAt events (cube_literals c vars) (get_or halves c 0)
@@ -125,7 +125,7 @@ half_ended clauses v vars ends halves old events closing half count = (
 )
 
 -- with all cubes joined, closing begins
-pub closing_begun : (clauses : List (List Literal)) (vars ends : List ℕ) (events : List LogEvent) → IsJoint clauses vars ends events → length ends ≡ 2 ^ length vars → IsClosing clauses vars ends events
+pub closing_begun : (clauses : List (List Literal)) (vars ends : List ℕ) (events : List LogEvent) → RefutesCubes clauses vars ends events → length ends ≡ 2 ^ length vars → IsClosing clauses vars ends events
 closing_begun clauses vars ends events joint count = record { joined = joint.joined; count = count; refuted = joint.refuted }
 
 -- the places of what refutes cubes are there
@@ -156,7 +156,7 @@ closed_valid clauses ends events closing =
 nil_clause : IsClause []
 nil_clause = record { ordered = λ i j d order below. absurd (omega arith); variables = All-nil (λ l. IsVariable l.var) }
 
-pub closed_joined : (clauses : List (List Literal)) (ends : List ℕ) (events : List LogEvent) → IsClosing clauses [] ends events → IsJoined clauses (events ++ step [] ends ∷ [])
+pub closed_joined : (clauses : List (List Literal)) (ends : List ℕ) (events : List LogEvent) → IsClosing clauses [] ends events → IsLogOfClauses clauses (events ++ step [] ends ∷ [])
 closed_joined clauses ends events closing =
     joined_step clauses events [] ends closing.joined nil_clause (closed_valid clauses ends events closing)
 
@@ -173,9 +173,9 @@ pub nil_is : (clause : List Literal) → HaveSameLiterals clause [] → clause �
 nil_is [] same = refl
 nil_is (l ∷ clause) same = absurd (none_in_nil l (All-head (Contains []) l clause same.from_first))
 
-pub closed_with : (clauses : List (List Literal)) (ends : List ℕ) (log new : LogState) (clause : List Literal) → IsClosing clauses [] ends log.events → clause ≡ [] → new ≡ with_step log clause ends → IsJoined clauses new.events
+pub closed_with : (clauses : List (List Literal)) (ends : List ℕ) (log new : LogState) (clause : List Literal) → IsClosing clauses [] ends log.events → clause ≡ [] → new ≡ with_step log clause ends → IsLogOfClauses clauses new.events
 closed_with clauses ends log new clause closing none is =
-    subst (IsJoined clauses) (sym (ap (λ (s : LogState). s.events) is ∙ ap (λ (c : List Literal). log.events ++ step c ends ∷ []) none)) (closed_joined clauses ends log.events closing)
+    subst (IsLogOfClauses clauses) (sym (ap (λ (s : LogState). s.events) is ∙ ap (λ (c : List Literal). log.events ++ step c ends ∷ []) none)) (closed_joined clauses ends log.events closing)
 
 pub closed_new : (ends : List ℕ) (log new : LogState) (clause : List Literal) → clause ≡ [] → new ≡ with_step log clause ends → KeepsNew log.events new.events
 closed_new ends log new clause none is =

@@ -10,13 +10,13 @@ use Rattle.cnf_core.proofs.Members.{All-from_contains}
 use Rattle.cnf_core.proofs.Following.{clauses_of-push}
 use Rattle.sat_split.specs.Cubes.{IsNamed, cube_literals, IsFalseIn}
 use Rattle.sat_split.proofs.Cubes.{cube_names, cube_apart}
-use Rattle.sat_join.specs.Joins.{IsRefutedAt, IsJoined, KeepsNew, HasNegations, Divides, Refutes}
+use Rattle.sat_join.specs.Joins.{IsRefutedAt, IsLogOfClauses, KeepsNew, HasNegations, Divides, Refutes}
 use Rattle.sat_join.proofs.Wider.{Contains-map, Contains-from_map}
 use Rattle.sat_join.proofs.News.{AreApart}
 use Rattle.sat_join.proofs.Events.{clause_at-push, refuted_left, givens_before, joined_step, new_step}
 
 -- a variable that stands in the formula stands in a given of a joined log
-pub named_stands : (clauses : List (List Literal)) (joined : List LogEvent) (v : ℕ) → IsJoined clauses joined → IsNamed clauses v → StandsInGiven joined v
+pub named_stands : (clauses : List (List Literal)) (joined : List LogEvent) (v : ℕ) → IsLogOfClauses clauses joined → IsNamed clauses v → StandsInGiven joined v
 named_stands clauses joined v is named = record {
   clause = named.clause;
   literal = named.literal;
@@ -27,7 +27,7 @@ named_stands clauses joined v is named = record {
 
 -- the joined log refutes a cube, and keeps what it was
 pub record IsRefuting (clauses : List (List Literal)) (literals : List Literal) (place : ℕ) (old new : List LogEvent) : Type 0 where
-  pub joined : IsJoined clauses new
+  pub joined : IsLogOfClauses clauses new
   pub new_steps : KeepsNew old new
   pub here : IsRefutedAt new literals place
   pub kept : (others : List Literal) (other : ℕ) → IsRefutedAt old others other → IsRefutedAt new others other
@@ -41,7 +41,7 @@ module _ (clauses : List (List Literal)) (vars : List ℕ) (cube : ℕ) (literal
   pub cube_named : (q : Literal) → Contains literals q → IsNamed clauses q.var
   cube_named q found = All-contains (IsNamed clauses) vars q.var divides.named (cube_names cube vars q (subst (λ (ls : List Literal). Contains ls q) are found))
 
-  pub refuting : (hints : List ℕ) (old new : LogState) (place : ℕ) → IsJoined clauses old.events
+  pub refuting : (hints : List ℕ) (old new : LogState) (place : ℕ) → IsLogOfClauses clauses old.events
       → ((wide : List Literal) → HaveSameLiterals wide (map negation literals) → IsConsistent wide → IsValidStep old.events wide hints)
       → Refutes old new literals hints place → IsRefuting clauses literals place old.events new.events
   refuting hints old new place joined valid (inl found) =

@@ -11,7 +11,7 @@ use Rattle.cnf_core.specs.declared.log.Event.{Event}
 use Rattle.cnf_core.specs.declared.log.Event.TheVariants as variants
 use Rattle.cnf_core.specs.Steps.{IsValidStep, NonEmptyStepsAreEffective}
 use Rattle.sat_split.specs.Cubes.{cube_literals, cube_log, unit_of}
-use Rattle.sat_join.specs.Joins.{IsJoint, CanJoin, KeepsNew, ArePlaces, IsWidened, Refutes}
+use Rattle.sat_join.specs.Joins.{RefutesCubes, CanJoin, KeepsNew, ArePlaces, IsWidened, Refutes}
 use Rattle.sat_join.proofs.Growing.{IsJoining, joining_begun, step_valid, step_effective, joining_more, joining_new, places_there, joint_next, length_cube}
 use Rattle.sat_join.proofs.Turns.{steps_are, at_turn, one_turn, step_at, not_ended, both_given}
 
@@ -108,7 +108,7 @@ module _ {givens : List (List Literal)} {vars ends : List ℕ} {literals : List 
 
   pub last : (k : ℕ) (e : Event) (clause : Clause) (hints : Vec ℕ Global) (places : List ℕ) (old new : LogState) (place : ℕ) → k < length turns → e ≡ get_or turns k e → e ≡ variants.Step clause hints
       → IsJoining givens vars ends literals first (so_far k) old.events → ArePlaces givens literals first hints.items places → clause ≡ [] → Refutes old new literals places place
-      → IsJoint givens vars (ends ++ place ∷ []) new.events × KeepsNew old.events new.events
+      → RefutesCubes givens vars (ends ++ place ∷ []) new.events × KeepsNew old.events new.events
   last k e clause hints places old new place below is step_is joining placed none refutes =
       joint_next givens vars ends literals first (so_far k) old.events set.can.divides set.can.is_cube set.are joining hints.items places old new place refl
       (subst (λ (c : List Literal). IsValidStep (so_far k) c hints.items) none (known k e clause hints below is step_is)) placed refutes

@@ -25,7 +25,7 @@ pub record IsRefutation (clauses : List (List Literal)) (literals : List Literal
   pub ends : EndsWithEmptyStep events
 
 -- a log of the formula: its clauses are given in order, nothing else is, each step is valid, and the literals of each clause are in order
-pub record IsJoined (clauses : List (List Literal)) (events : List LogEvent) : Type 0 where
+pub record IsLogOfClauses (clauses : List (List Literal)) (events : List LogEvent) : Type 0 where
   pub steps : List LogEvent
   pub events_are : events ≡ all_given clauses ++ steps
   pub are_steps : All (λ e. is_given e ≡ false) steps
@@ -43,8 +43,8 @@ IsOfCubes clauses vars cubes clause =
 
 -- A log of the formula refutes each of the first cubes, at its place among the ends. Each clause of it is the formula's, or has the negations
 -- of one of these cubes.
-pub record IsJoint (clauses : List (List Literal)) (vars ends : List ℕ) (events : List LogEvent) : Type 0 where
-  pub joined : IsJoined clauses events
+pub record RefutesCubes (clauses : List (List Literal)) (vars ends : List ℕ) (events : List LogEvent) : Type 0 where
+  pub joined : IsLogOfClauses clauses events
   pub refuted : (c : ℕ) → c < length ends → IsRefutedAt events (cube_literals c vars) (slice_index_or ends c 0)
   pub origins : All (IsOfCubes clauses vars (length ends)) (clauses_of events)
 
@@ -56,7 +56,7 @@ pub record Divides (clauses : List (List Literal)) (vars : List ℕ) : Type 0 wh
 
 -- the cubes of these variables are all refuted
 pub record IsClosing (clauses : List (List Literal)) (vars ends : List ℕ) (events : List LogEvent) : Type 0 where
-  pub joined : IsJoined clauses events
+  pub joined : IsLogOfClauses clauses events
   pub count : length ends ≡ 2 ^ length vars
   pub refuted : (c : ℕ) → c < length ends → IsRefutedAt events (cube_literals c vars) (slice_index_or ends c 0)
 
@@ -69,7 +69,7 @@ pub record CanJoin (clauses : List (List Literal)) (vars ends : List ℕ) (refut
   pub divides : Divides clauses vars
   pub is_cube : length ends < 2 ^ length vars
   pub refutation : IsRefutation clauses (cube_literals (length ends) vars) refuted
-  pub joint : IsJoint clauses vars ends joined
+  pub joint : RefutesCubes clauses vars ends joined
 
 -- Where the clause of a hint of a cube's step stands in the joined log, in which the cube's first step has the place first. A clause of the
 -- formula that one of the cube's literals makes true may be left out; a literal of the cube stands nowhere.

@@ -3,7 +3,7 @@
 ghost use Rattle.std.specs.Prelude.{◌≡◌, ℕ, ◌^◌, ◌<◌, ◌∷◌, List, All, IfOk, OnOk, IsTrue, length};
 ghost use Rattle.cnf_core.specs.Literal.{Literal, IsVariable};
 ghost use Rattle.sat_search.specs.Logs.{EndsWithEmptyStep};
-ghost use Rattle.sat_join.specs.Joins.{Divides, IsClosing, IsJoined, IsJoint, KeepsNew};
+ghost use Rattle.sat_join.specs.Joins.{Divides, IsClosing, IsLogOfClauses, RefutesCubes, KeepsNew};
 
 use crate::joining::refute;
 use cnf_core::{Clause, Event, Formula, Log};
@@ -51,9 +51,9 @@ pub fn close(
     joined: &mut Log,
 ) -> Result<(), Memory>
     requires divides { Divides formula.now.clauses vars.now }
-    requires joint { IsJoint formula.now.clauses vars.now ends.items joined.old.events }
+    requires joint { RefutesCubes formula.now.clauses vars.now ends.items joined.old.events }
     requires all { length ends.items ≡ 2 ^ length vars.now }
-    ensures joined { OnOk result (IsJoined formula.now.clauses joined.new.events) }
+    ensures joined { OnOk result (IsLogOfClauses formula.now.clauses joined.new.events) }
     ensures new { OnOk result (KeepsNew joined.old.events joined.new.events) }
     ensures ends { OnOk result (EndsWithEmptyStep joined.new.events) }
     ensures notes { OnOk result (joined.new.notes ≡ joined.old.notes) }

@@ -3,7 +3,7 @@
 ghost use Rattle.std.specs.Prelude.{◌≡◌, ◌+◌, IfOk, OnOk, length};
 ghost use Rattle.cnf_core.specs.Events.{HintsAreThere};
 ghost use Rattle.cnf_core.specs.Steps.{NonEmptyStepsAreEffective};
-ghost use Rattle.sat_join.specs.Joins.{CanJoin, IsJoint, KeepsNew, Refutes};
+ghost use Rattle.sat_join.specs.Joins.{CanJoin, RefutesCubes, KeepsNew, Refutes};
 
 use crate::places::{find_false, places_of, refutation, widened};
 use cnf_core::{Event, Formula, Lit, Log};
@@ -46,7 +46,7 @@ pub fn join_cube(
     ends: &mut Vec<u64>,
 ) -> Result<(), Memory>
     requires { CanJoin formula.now.clauses vars.now ends.old.items refuted.now.events joined.old.events }
-    ensures joint { OnOk result (IsJoint formula.now.clauses vars.now ends.new.items joined.new.events) }
+    ensures joint { OnOk result (RefutesCubes formula.now.clauses vars.now ends.new.items joined.new.events) }
     ensures new { OnOk result (NonEmptyStepsAreEffective refuted.now.events → KeepsNew joined.old.events joined.new.events) }
     ensures count { OnOk result (length ends.new.items ≡ length ends.old.items + 1) }
     ensures notes { OnOk result (joined.new.notes ≡ joined.old.notes) }

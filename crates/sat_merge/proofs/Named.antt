@@ -11,7 +11,7 @@ use Rattle.cnf_core.proofs.Members.{All-from_contains}
 use Rattle.sat_search.proofs.Continued.{sound_givens}
 use Rattle.sat_split.specs.Cubes.{IsNamed, all_given, cube_literals, cube_log, unit_of}
 use Rattle.sat_split.proofs.Cubes.{cube_names}
-use Rattle.sat_join.specs.Joins.{CanJoin, Divides, IsJoint, IsOfCubes, IsRefutation}
+use Rattle.sat_join.specs.Joins.{CanJoin, Divides, RefutesCubes, IsOfCubes, IsRefutation}
 use Rattle.sat_merge.specs.Proofs.{IsProved, cube_clauses}
 
 -- the clauses of given events
@@ -52,7 +52,7 @@ refutes clauses vars cube events is = record {
   ends = is.ends;
 }
 
-pub may_join : (clauses : List (List Literal)) (vars ends : List ℕ) (cube : ℕ) (refuted joined : List LogEvent) → Divides clauses vars → length ends < 2 ^ length vars → cube ≡ length ends → IsJoint clauses vars ends joined
+pub may_join : (clauses : List (List Literal)) (vars ends : List ℕ) (cube : ℕ) (refuted joined : List LogEvent) → Divides clauses vars → length ends < 2 ^ length vars → cube ≡ length ends → RefutesCubes clauses vars ends joined
     → IsProved (cube_clauses clauses vars cube) refuted → CanJoin clauses vars ends refuted joined
 may_join clauses vars ends cube refuted joined divides within count joint is = record {
   divides = divides;
@@ -62,9 +62,9 @@ may_join clauses vars ends cube refuted joined divides within count joint is = r
 }
 
 -- nothing is joined to a formula's clauses
-pub joint_none : (clauses : List (List Literal)) (vars : List ℕ) (log : LogState) → All IsClause clauses → log ≡ record { events = all_given clauses; notes = []; base = 0 } → IsJoint clauses vars [] log.events
+pub joint_none : (clauses : List (List Literal)) (vars : List ℕ) (log : LogState) → All IsClause clauses → log ≡ record { events = all_given clauses; notes = []; base = 0 } → RefutesCubes clauses vars [] log.events
 joint_none clauses vars log are is =
-    subst (λ (l : LogState). IsJoint clauses vars [] l.events) (sym is) (record {
+    subst (λ (l : LogState). RefutesCubes clauses vars [] l.events) (sym is) (record {
       joined = record {
         steps = [];
         events_are = sym (append-nil (all_given clauses));

@@ -20,7 +20,7 @@ use Rattle.sat_search.proofs.Continued.{sound_givens}
 use Rattle.sat_split.specs.Cubes.{all_given}
 use Rattle.sat_join.specs.Joins.{clause_at}
 use Rattle.sat_join.proofs.Wider.{Mirrors, wide_shown}
-use Rattle.sat_merge.specs.Proofs.{Ascend, ArePlaces, IsPlaceOf, IsProved, first_ids}
+use Rattle.sat_merge.specs.Proofs.{Ascend, AreIdPlaces, IsPlaceOf, IsProved, first_ids}
 use Rattle.sat_merge.proofs.Named.{clauses-given, given_all}
 use Rattle.sat_merge.proofs.Numbered.{all_below, and_left, and_right, choice, id_at, length_ids, live_before, none_empty, numbered_stands}
 
@@ -153,7 +153,7 @@ module _ (clauses : List (List Literal)) (read : List ProofLine) (ids : List ℕ
     are : clauses_at events places ≡ front ++ rest
     mirrors : Mirrors [] (hinted_clauses (live_behind clauses read) hints) front
 
-  begins : (hints : List ℤ) (places : List ℕ) → ArePlaces ids hints places → Begins hints places
+  begins : (hints : List ℤ) (places : List ℕ) → AreIdPlaces ids hints places → Begins hints places
   begins [] places is = subst (Begins []) (sym is) (record { there = All-nil (λ (p : ℕ). p < length events); front = []; rest = []; are = refl; mirrors = refl })
   begins (hint ∷ hints) places (inl none) =
       subst (Begins (hint ∷ hints)) (sym none.1) (record {
@@ -204,11 +204,11 @@ module _ (clauses : List (List Literal)) (read : List ProofLine) (ids : List ℕ
                 ));
           }
 
-  pub hints_there : (hints : List ℤ) (places : List ℕ) → ArePlaces ids hints places → HintsAreThere events places
+  pub hints_there : (hints : List ℤ) (places : List ℕ) → AreIdPlaces ids hints places → HintsAreThere events places
   hints_there hints places are = (begins hints places are).there
 
   -- a valid line's step is valid, by whatever clause has the same literals
-  pub step_valid : (id : ℕ) (clause wide : List Literal) (hints : List ℤ) (places : List ℕ) → is_valid_line clauses read (add id clause hints) ≡ true → HaveSameLiterals wide clause → ArePlaces ids hints places → IsValidStep events wide places
+  pub step_valid : (id : ℕ) (clause wide : List Literal) (hints : List ℤ) (places : List ℕ) → is_valid_line clauses read (add id clause hints) ≡ true → HaveSameLiterals wide clause → AreIdPlaces ids hints places → IsValidStep events wide places
   step_valid id clause wide hints places line same are =
       let it = begins hints places are in
       record {
@@ -241,7 +241,7 @@ module _ (clauses : List (List Literal)) (read : List ProofLine) (ids : List ℕ
       ])
 
   -- one more line adds its clause
-  pub read_add : (id : ℕ) (clause wide : List Literal) (hints : List ℤ) (places : List ℕ) → is_valid_line clauses read (add id clause hints) ≡ true → IsClause wide → HaveSameLiterals wide clause → ArePlaces ids hints places → is_empty_clause clause ≡ false
+  pub read_add : (id : ℕ) (clause wide : List Literal) (hints : List ℤ) (places : List ℕ) → is_valid_line clauses read (add id clause hints) ≡ true → IsClause wide → HaveSameLiterals wide clause → AreIdPlaces ids hints places → is_empty_clause clause ≡ false
       → IsRead clauses (read ++ add id clause hints ∷ []) (ids ++ id ∷ []) (events ++ step wide places ∷ [])
   read_add id clause wide hints places line is_clause same are some = record {
     steps = h.steps ++ step wide places ∷ [];
@@ -300,7 +300,7 @@ module _ (clauses : List (List Literal)) (read : List ProofLine) (ids : List ℕ
   }
 
   -- a line that adds the empty clause gives it
-  pub read_empty : (id : ℕ) (wide : List Literal) (hints : List ℤ) (places : List ℕ) → is_valid_line clauses read (add id [] hints) ≡ true → HaveSameLiterals wide [] → ArePlaces ids hints places → IsProved clauses (events ++ step wide places ∷ [])
+  pub read_empty : (id : ℕ) (wide : List Literal) (hints : List ℤ) (places : List ℕ) → is_valid_line clauses read (add id [] hints) ≡ true → HaveSameLiterals wide [] → AreIdPlaces ids hints places → IsProved clauses (events ++ step wide places ∷ [])
   read_empty id wide hints places line same are =
       subst (λ (c : List Literal). IsProved clauses (events ++ step c places ∷ [])) (sym (nil_is wide same))
       (ended places (subst (λ (c : List Literal). IsValidStep events c places) (nil_is wide same) (step_valid id [] wide hints places line same are)))

@@ -9,7 +9,7 @@ use Rattle.sat_proof.specs.Lines.{FlatProof, row_line, row_lines}
 use Rattle.sat_proof.specs.declared.proof.Row.{Row}
 use Rattle.log_check.specs.Verdict.{adds_empty_clause, is_empty_clause, is_valid_line, verdict_of}
 use Rattle.log_check.specs.declared.Verdict.TheVariants.{Verified}
-use Rattle.sat_merge.specs.Proofs.{ArePlaces, IsProved}
+use Rattle.sat_merge.specs.Proofs.{AreIdPlaces, IsProved}
 use Rattle.sat_merge.proofs.Reading.{IsRead, formula_empty, read_add, read_delete, read_empty, verified_line}
 
 -- a clause that has a literal isn't empty
@@ -42,13 +42,13 @@ module _ (clauses : List (List Literal)) (p : FlatProof) (lines : List Row) (ver
     line = subst (λ (l : ProofLine). is_valid_line clauses (row_lines p (take k lines)) l ≡ true) adds valid_here
 
     -- a line that adds a clause
-    pub turn_add : (wide : List Literal) (places : List ℕ) → IsClause wide → HaveSameLiterals wide clause → ArePlaces ids hints places → 0 < length clause → IsRead clauses (row_lines p (take (k + 1) lines)) (ids ++ id ∷ []) (events ++ step wide places ∷ [])
+    pub turn_add : (wide : List Literal) (places : List ℕ) → IsClause wide → HaveSameLiterals wide clause → AreIdPlaces ids hints places → 0 < length clause → IsRead clauses (row_lines p (take (k + 1) lines)) (ids ++ id ∷ []) (events ++ step wide places ∷ [])
     turn_add wide places is_clause same are some =
         subst (λ (read : List ProofLine). IsRead clauses read (ids ++ id ∷ []) (events ++ step wide places ∷ [])) (sym (next ∙ ap (λ (l : ProofLine). row_lines p (take k lines) ++ l ∷ []) adds))
         (read_add clauses (row_lines p (take k lines)) ids events h id clause wide hints places line is_clause same are (not_empty clause some))
 
     -- one that adds the empty clause
-    pub turn_empty : (wide : List Literal) (places : List ℕ) → HaveSameLiterals wide clause → ArePlaces ids hints places → clause ≡ [] → IsProved clauses (events ++ step wide places ∷ [])
+    pub turn_empty : (wide : List Literal) (places : List ℕ) → HaveSameLiterals wide clause → AreIdPlaces ids hints places → clause ≡ [] → IsProved clauses (events ++ step wide places ∷ [])
     turn_empty wide places same are none =
         read_empty clauses (row_lines p (take k lines)) ids events h id wide hints places (subst (λ (c : List Literal). is_valid_line clauses (row_lines p (take k lines)) (add id c hints) ≡ true) none line)
         (subst (HaveSameLiterals wide) none same) are

@@ -24,11 +24,11 @@ abbrev pub IsNoId : List ℕ → ℤ → Type 0
 IsNoId ids hint = (place : ℕ) → IsPlaceOf ids hint place → ⊥
 
 -- the places of the events that hints name, up to the first that names none
-abbrev pub ArePlaces : List ℕ → List ℤ → List ℕ → Type 0
-ArePlaces ids [] places = places ≡ []
-ArePlaces ids (hint ∷ hints) places =
+abbrev pub AreIdPlaces : List ℕ → List ℤ → List ℕ → Type 0
+AreIdPlaces ids [] places = places ≡ []
+AreIdPlaces ids (hint ∷ hints) places =
     (IsNoId ids hint × (places ≡ []))
-    ⊎ ((place : ℕ) × (rest : List ℕ) × (places ≡ place ∷ rest) × IsPlaceOf ids hint place × ArePlaces ids hints rest)
+    ⊎ ((place : ℕ) × (rest : List ℕ) × (places ≡ place ∷ rest) × IsPlaceOf ids hint place × AreIdPlaces ids hints rest)
 
 -- so many ids, from the first on
 abbrev pub ids_on : ℕ → ℕ → List ℕ

@@ -3,7 +3,7 @@
 ghost use Rattle.std.specs.Prelude.{◌≡◌, ℕ, ◌+◌, ◌^◌, ◌<◌, List, [], IfOk, OnOk, Err, length};
 ghost use Rattle.log_check.specs.Verdict.{verdict_of};
 ghost use Rattle.log_check.specs.declared.Verdict.TheVariants as verdicts;
-ghost use Rattle.sat_join.specs.Joins.{Divides, IsJoint};
+ghost use Rattle.sat_join.specs.Joins.{Divides, RefutesCubes};
 ghost use Rattle.sat_merge.specs.Proofs.{cube_clauses};
 ghost use Rattle.sat_proof.specs.Lines.{proof_lines};
 
@@ -55,7 +55,7 @@ impl From<Memory> for JoinError {
 
 /// A log of a formula's clauses, to which no cube is joined yet.
 pub fn begin(alloc: Global, formula: &Formula) -> Result<Log, Memory>
-    ensures joint { IfOk result (λ log. (vars : List ℕ) → IsJoint formula.now.clauses vars [] log.events) }
+    ensures joint { IfOk result (λ log. (vars : List ℕ) → RefutesCubes formula.now.clauses vars [] log.events) }
     ensures notes { IfOk result (λ log. log.notes ≡ []) }
     ensures base { IfOk result (λ log. log.base ≡ 0) }
 {
@@ -80,8 +80,8 @@ pub fn join_proof(
 ) -> Result<(), JoinError>
     requires divides { Divides formula.now.clauses vars.now }
     requires is_cube { length ends.old.items < 2 ^ length vars.now }
-    requires joint { IsJoint formula.now.clauses vars.now ends.old.items joined.old.events }
-    ensures joint { OnOk result (IsJoint formula.now.clauses vars.now ends.new.items joined.new.events) }
+    requires joint { RefutesCubes formula.now.clauses vars.now ends.old.items joined.old.events }
+    ensures joint { OnOk result (RefutesCubes formula.now.clauses vars.now ends.new.items joined.new.events) }
     ensures count { OnOk result (length ends.new.items ≡ length ends.old.items + 1) }
     ensures verified { OnOk result (verdict_of (cube_clauses formula.now.clauses vars.now (length ends.old.items))
         (proof_lines proof.now) ≡ verdicts.Verified) }

@@ -1,7 +1,7 @@
 //! Where the clauses that hints name by their ids stand in a log.
 
 ghost use Rattle.std.specs.Prelude.{◌≡◌, ◌≤◌, ℤ, pos, IfOk, IfSome, IfNone};
-ghost use Rattle.sat_merge.specs.Proofs.{ArePlaces, Ascend, IsNoId, IsPlaceOf};
+ghost use Rattle.sat_merge.specs.Proofs.{AreIdPlaces, Ascend, IsNoId, IsPlaceOf};
 
 use ep_base::Memory;
 use std::alloc::Global;
@@ -25,7 +25,7 @@ fn place_of(ids: &[u64], hint: i64) -> Option<u64>
 /// The places of the events that hints name, up to the first hint that names none.
 pub fn places_of(alloc: Global, ids: &[u64], hints: &[i64]) -> Result<Vec<u64>, Memory>
     requires { Ascend ids.now }
-    ensures { IfOk result (λ places. ArePlaces ids.now hints.now places.items) }
+    ensures { IfOk result (λ places. AreIdPlaces ids.now hints.now places.items) }
 {
     let mut places = Vec::new(alloc);
     for hint in hints {

@@ -11,7 +11,7 @@ use Rattle.ep_solve.specs.Reading.{answer_from}
 use Rattle.ep_solve.specs.Right.{IsRight}
 use Rattle.ep_tree.specs.Binding.{Instance}
 use Rattle.ep_tree.specs.declared.values.Mode.{Mode}
-use Rattle.ep_divided.specs.Divided.{IsLoggedInCubes}
+use Rattle.ep_divided.specs.Divided.{IsLoggedAsDivided}
 use Rattle.ep_divided.proofs.Showing.{AreSolvedFor, divided-logged, divided-new, divided-right, divided-typed, divided-valid, stated, undivided-logged, unstated}
 use Rattle.ep_divided.proofs.dividing.solve_in_cubes.Given.{Over}
 use Rattle.ep_divided.proofs.dividing.solve_in_cubes.Goals as goal
@@ -33,7 +33,7 @@ returns-then-is_some-clause-logged g c =
     let mode : Mode = instance_mode c.args.instance.now in
     let i : Instance = plain_instance c.args.instance.now in
     where-ok c.solve.result (λ answer. IsLogged mode i c.args.budget c.solve.new.log (answer_tree answer))
-    (λ answer. IsLoggedInCubes mode i c.args.cubes c.args.budget c.solve.new.log (answer_tree answer)) c.solve.ensures.logged
+    (λ answer. IsLoggedAsDivided mode i c.args.cubes c.args.budget c.solve.new.log (answer_tree answer)) c.solve.ensures.logged
     (λ answer logged. undivided-logged mode i c.args.cubes c.args.budget c.solve.new.log (answer_tree answer)
     (stated (λ o. goal_of o.now) c.objective.result i.goal c.objective.ensures (sym c.is_some.ensures ∙ c.if-is_some.true)) logged)
 
@@ -84,7 +84,7 @@ returns-clause-logged g c =
     let i : Instance = plain_instance c.args.instance.now in
     where-ok c.read_back.result
     (λ answer. answer_tree answer ≡ answer_from (map find_of c.finds.result.now) c.args.budget (plain_answer c.in_ok-found.found))
-    (λ answer. IsLoggedInCubes mode i c.args.cubes c.args.budget c.in_ok-found.made (answer_tree answer)) c.read_back.ensures (λ answer same.
+    (λ answer. IsLoggedAsDivided mode i c.args.cubes c.args.budget c.in_ok-found.made (answer_tree answer)) c.read_back.ensures (λ answer same.
     divided-logged mode i c.args.cubes c.args.budget (solved g c) (answer_tree answer)
     (same ∙ ap (λ fs. answer_from fs c.args.budget (plain_answer c.in_ok-found.found)) c.finds.ensures))
 

@@ -1,9 +1,9 @@
 use Rattle.std.proofs.Common.{◌≡◌, ℕ, ◌+◌, ◌^◌, ◌<◌, ◌≤◌, IfSome, List, length, ap, ◌∙◌, sym, subst, arith}
 use Rattle.sat_split.specs.Cubes.{cube_literals}
-use Rattle.sat_join.specs.Joins.{Divides, IsJoint}
+use Rattle.sat_join.specs.Joins.{Divides, RefutesCubes}
 use Rattle.sat_cubes.specs.Answers.{AreRefutedWithin}
-use Rattle.sat_cubes.specs.Solving.{IsLeft, IsSoFar}
-use Rattle.sat_cubes.specs.declared.solving.Left.{Left}
+use Rattle.sat_cubes.specs.Solving.{IsOpenCube, IsSoFar}
+use Rattle.sat_cubes.specs.declared.solving.OpenCube.{OpenCube}
 use Rattle.std.specs.Prelude.{Option}
 use Rattle.sat_cubes.proofs.Waving.{divided, so_far_none, within_none, ends_unsat}
 use Rattle.sat_cubes.proofs.waves.solve_cubes.Goals as goal
@@ -49,8 +49,8 @@ returns-in-Some g c =
     let is = c.deref.ensures.value in
     let ends = c.go_on.new.ends.items in
     let both =
-    subst (λ (o : Option Left). IfSome o (λ one. (length ends < 2 ^ length vars) × IsLeft f (cube_literals (length ends) vars) c.args.budget one)) c.in-Some.is
-    (subst (λ (vs : List ℕ). IfSome c.in_ok-left.left (λ one. (length ends < 2 ^ length vs) × IsLeft f (cube_literals (length ends) vs) c.args.budget one)) is c.in_ok-left.ensures.left) in
+    subst (λ (o : Option OpenCube). IfSome o (λ one. (length ends < 2 ^ length vars) × IsOpenCube f (cube_literals (length ends) vars) c.args.budget one)) c.in-Some.is
+    (subst (λ (vs : List ℕ). IfSome c.in_ok-left.left (λ one. (length ends < 2 ^ length vs) × IsOpenCube f (cube_literals (length ends) vs) c.args.budget one)) is c.in_ok-left.ensures.left) in
     record {
       vars = vars;
       are = c.in_ok-vars.ensures.are;
@@ -69,7 +69,7 @@ close-requires g c =
     let total : c.cubes_over-total.result ≡ 2 ^ length vars = c.cubes_over-total.ensures ∙ ap (λ (n : ℕ). 2 ^ n) (let e : c.len.result ≡ length vars = omega (arith, c.len.ensures, c.in_ok-vars.vars.ok.0) in e) in
     record {
       divides = subst (Divides clauses) back inv.divides;
-      joint = subst (λ (vs : List ℕ). IsJoint clauses vs ends c.waves.joined.events) back inv.joint;
+      joint = subst (λ (vs : List ℕ). RefutesCubes clauses vs ends c.waves.joined.events) back inv.joint;
       all = subst (λ (vs : List ℕ). length ends ≡ 2 ^ length vs) back (omega (arith, total, c.waves-test.false, c.len-in-waves.ensures, c.waves.ends.ok.0, inv.within));
     }
 

@@ -6,7 +6,7 @@ use Rattle.std.proofs.lemmas.List.{nil_from_length}
 use Rattle.cnf_core.specs.Literal.{Literal}
 use Rattle.cnf_core.specs.Events.{LogState, step}
 use Rattle.cnf_core.specs.Steps.{NonEmptyStepsAreNew}
-use Rattle.sat_join.specs.Joins.{IsJoint, IsWidened, KeepsNew, Refutes}
+use Rattle.sat_join.specs.Joins.{RefutesCubes, IsWidened, KeepsNew, Refutes}
 use Rattle.sat_join.proofs.Growing.{IsJoining}
 use Rattle.sat_join.proofs.Settings.{IsSet, set_up, placed_as, nonempty_step, so_far, begun, never_given, bounded, places_stand, more, more_new, last, some_more, never_ends}
 use Rattle.sat_join.proofs.joining.join_cube.Goals as goal
@@ -73,14 +73,14 @@ returns-then-is_empty-clause-joint c =
     let k = c.loop-event.event-index in
     let place = c.in_ok-refute.field-0 in
     let none : c.in-Step.clause ≡ [] = sym c.lits.ensures.value ∙ nil_from_length c.lits.result.now (eqb-true _ 0 (sym c.is_empty.ensures ∙ c.if-is_empty.true)) in
-    let both : IsJoint givens vars (c.args.ends.now.items ++ place ∷ []) c.refute.new.joined.events × KeepsNew c.loop-event.joined.events c.refute.new.joined.events =
+    let both : RefutesCubes givens vars (c.args.ends.now.items ++ place ∷ []) c.refute.new.joined.events × KeepsNew c.loop-event.joined.events c.refute.new.joined.events =
     last s k c.event-item.result c.in-Step.clause c.in-Step.hints c.in_ok-places.places.items c.loop-event.joined c.refute.new.joined place c.loop-event-test.true c.event-item.is c.in-Step.is
     (subst (λ (v : Vec ℕ Global). IsJoining givens vars v.items literals first (so_far s k) c.loop-event.joined.events) c.loop-event.invariant.ends c.loop-event.invariant.joining)
     (placed_as givens c.deref.result.now literals first c.deref-in-loop-event.result.now c.in-Step.hints.items c.in_ok-places.places.items c.deref.ensures.value c.deref-in-loop-event.ensures.value c.in_ok-places.ensures)
     none
     (subst (λ (ls : List Literal). Refutes c.loop-event.joined c.refute.new.joined ls c.in_ok-places.places.items place) c.deref-then-is_empty.ensures.value c.in_ok-refute.ensures) in
-    subst (λ (cs : List (List Literal)). IsJoint cs vars c.push.new.self.items c.refute.new.joined.events) c.clauses-givens.ensures.value
-    (subst (λ (es : List ℕ). IsJoint givens vars es c.refute.new.joined.events)
+    subst (λ (cs : List (List Literal)). RefutesCubes cs vars c.push.new.self.items c.refute.new.joined.events) c.clauses-givens.ensures.value
+    (subst (λ (es : List ℕ). RefutesCubes givens vars es c.refute.new.joined.events)
     (sym (c.in_ok-push.ensures.items ∙ ap (λ (v : Vec ℕ Global). v.items ++ place ∷ []) c.loop-event.invariant.ends)) both.0)
 
 pub returns-then-is_empty-clause-new : goal.returns-then-is_empty-clause-new
@@ -93,7 +93,7 @@ returns-then-is_empty-clause-new c =
     let k = c.loop-event.event-index in
     let place = c.in_ok-refute.field-0 in
     let none : c.in-Step.clause ≡ [] = sym c.lits.ensures.value ∙ nil_from_length c.lits.result.now (eqb-true _ 0 (sym c.is_empty.ensures ∙ c.if-is_empty.true)) in
-    let both : IsJoint givens vars (c.args.ends.now.items ++ place ∷ []) c.refute.new.joined.events × KeepsNew c.loop-event.joined.events c.refute.new.joined.events =
+    let both : RefutesCubes givens vars (c.args.ends.now.items ++ place ∷ []) c.refute.new.joined.events × KeepsNew c.loop-event.joined.events c.refute.new.joined.events =
     last s k c.event-item.result c.in-Step.clause c.in-Step.hints c.in_ok-places.places.items c.loop-event.joined c.refute.new.joined place c.loop-event-test.true c.event-item.is c.in-Step.is
     (subst (λ (v : Vec ℕ Global). IsJoining givens vars v.items literals first (so_far s k) c.loop-event.joined.events) c.loop-event.invariant.ends c.loop-event.invariant.joining)
     (placed_as givens c.deref.result.now literals first c.deref-in-loop-event.result.now c.in-Step.hints.items c.in_ok-places.places.items c.deref.ensures.value c.deref-in-loop-event.ensures.value c.in_ok-places.ensures)

@@ -6,7 +6,7 @@ use Rattle.cnf_core.specs.Events.{LogState, step}
 use Rattle.cnf_core.specs.Literal.{HaveSameLiterals, Literal}
 use Rattle.log_check.specs.Verdict.{is_empty_clause, verdict_of}
 use Rattle.log_check.specs.declared.Verdict.TheVariants.{Verified}
-use Rattle.sat_merge.specs.Proofs.{ArePlaces, Ascend, IsProved, first_ids}
+use Rattle.sat_merge.specs.Proofs.{AreIdPlaces, Ascend, IsProved, first_ids}
 use Rattle.sat_merge.proofs.Reading.{IsRead, given_empty, hints_there, nil_is, read_none}
 use Rattle.sat_merge.proofs.Turns.{turn_add, turn_delete, turn_empty, turned_all}
 use Rattle.sat_merge.proofs.logs.log_of_proof.Goals as goal
@@ -35,7 +35,7 @@ step-requires c =
     let places = c.in_ok-places.places.items in
     let read = row_lines c.args.proof.now (take c.loop-row.row-index c.rows-rows.result.now) in
     hints_there c.args.formula.now.clauses read ids c.loop-row.log.events c.loop-row.invariant c.in-Add.hints.now places
-    (subst (λ (is : List ℕ). ArePlaces is c.in-Add.hints.now places) c.deref.ensures.value c.in_ok-places.ensures)
+    (subst (λ (is : List ℕ). AreIdPlaces is c.in-Add.hints.now places) c.deref.ensures.value c.in_ok-places.ensures)
 
 pub loop-row-preserved : goal.loop-row-preserved
 loop-row-preserved c =
@@ -56,7 +56,7 @@ loop-row-preserved c =
     (turn_add clauses p rows (verified (goal.at.loop-row-preserved c).After-rows-rows) k _ below (get_or_default rows k _ _ below)
     c.in-Add.id clause hints (sym c.line.ensures ∙ ap plain_line c.in-Add.is) ids events c.loop-row.invariant wide places c.in_ok-new.ensures.clause
     (subst (HaveSameLiterals wide) c.in_ok-literals.ensures.items c.in_ok-new.ensures.same)
-    (subst (λ (is : List ℕ). ArePlaces is hints places) c.deref.ensures.value c.in_ok-places.ensures)
+    (subst (λ (is : List ℕ). AreIdPlaces is hints places) c.deref.ensures.value c.in_ok-places.ensures)
     (omega (arith, eqb-false _ 0 (sym c.is_empty.ensures ∙ c.if-is_empty.false)))))
 
 pub loop-row-preserved-in_default : goal.loop-row-preserved-in_default
@@ -84,7 +84,7 @@ returns-then-is_empty c =
     (turn_empty clauses p rows (verified (goal.at.returns-then-is_empty c).After-rows-rows) k _ below (get_or_default rows k _ _ below)
     c.in-Add.id clause hints (sym c.line.ensures ∙ ap plain_line c.in-Add.is) ids events c.loop-row.invariant wide places
     (subst (HaveSameLiterals wide) c.in_ok-literals.ensures.items c.in_ok-new.ensures.same)
-    (subst (λ (is : List ℕ). ArePlaces is hints places) c.deref.ensures.value c.in_ok-places.ensures)
+    (subst (λ (is : List ℕ). AreIdPlaces is hints places) c.deref.ensures.value c.in_ok-places.ensures)
     (nil_from_length clause (eqb-true _ 0 (sym c.is_empty.ensures ∙ c.if-is_empty.true))))
 
 pub unreachable-requires : goal.unreachable-requires
