@@ -9,7 +9,8 @@ use Rattle.ep_eval.proofs.Lists.{values_from-map}
 use Rattle.ep_eval.specs.Helds.{seen_held}
 use Rattle.ep_eval.specs.declared.held.Held.{Held}
 use Rattle.ep_ground.specs.Nodes.{GroundNode}
-use Rattle.ep_tree.specs.Values.{Index, ValueTree, all_defined, any_index, as_parts, at_index, matrix, read_value}
+use Rattle.ep_ground.specs.Terms.{term_value}
+use Rattle.ep_tree.specs.Values.{Index, ValueTree, all_defined, any_index, as_parts, at_index, matrix, read_value, single}
 use Rattle.ep_tree.specs.Views.{value_tree, values_from}
 use Rattle.ep_tree.specs.declared.values.Value.{Value}
 use Rattle.ep_unroll.proofs.ColumnSteps.{listed_parts}
@@ -19,7 +20,18 @@ use Rattle.ep_unroll.specs.Lefts.{IsLeft}
 use Rattle.ep_unroll.specs.Meanings.{AreTerms, worth}
 use Rattle.ep_unroll.specs.PartLists.{HaveTerms, worths}
 use Rattle.ep_unroll.specs.PartReads.{part_with, parts_worth}
-use Rattle.ep_unroll.specs.declared.unrolled.Unrolled.{Unrolled, Matrix}
+use Rattle.ep_unroll.specs.declared.unrolled.Unrolled.{Unrolled, Fixed, Matrix, Number}
+
+-- ---- a number, which has no part
+
+no_part : (o : Option ℤ) (i : Index) (is : List Index) (v : ValueTree) → option_map single o ≡ Some v → None ≡ read_value (i ∷ is) v
+unfolding read_value
+no_part None i is v e = no_some e
+no_part (Some n) i is v e = subst (λ w. None ≡ read_value (i ∷ is) w) (some_is e) refl
+
+pub number_left : (x : Unrolled) (t : ℕ) (i : Index) (is : List Index) → x ≡ Number t → IsLeft (λ nodes numbers. worth nodes numbers x) (i ∷ is) (Fixed None)
+unfolding worth
+number_left x t i is same nodes numbers v e = no_part (term_value nodes numbers t) i is v (sym (ap (worth nodes numbers) same) ∙ e)
 
 -- ---- the part with an index
 

@@ -5,6 +5,7 @@ pub mod Firsts
 pub mod Flats
 pub mod Grounds
 pub mod Growing
+pub mod Kinds
 pub mod Lefts
 pub mod Lists
 pub mod Meanings

@@ -1,17 +1,24 @@
 -- Indices of reads in which decision variables may stand, and the scalars among which such a read chooses.
-use Rattle.std.specs.Prelude.{◌≡◌, ℕ, ◌<◌, List, [], ◌∷◌, map, ℤ, Some, None, Option, option_map, length, if◌then◌else◌}
+use Rattle.std.specs.Prelude.{◌≡◌, Bool, true, IfSome, ℕ, ◌<◌, List, [], ◌∷◌, map, ℤ, Some, None, Option, option_map, length, if◌then◌else◌}
 use Rattle.std.specs.List.{All}
 use Rattle.ep_base.specs.Numbers.{same_numbers}
+use Rattle.ep_base.specs.declared.names.Name.{Name}
 use Rattle.ep_ground.specs.Nodes.{GroundNode}
 use Rattle.ep_ground.specs.Terms.{term_value}
 use Rattle.ep_tree.specs.Environments.{Env}
 use Rattle.ep_tree.specs.Values.{Index, ValueTree, all_defined, any_index, at_index, read_value, single}
+use Rattle.ep_tree.specs.Views.{expr_tree}
 use Rattle.ep_tree.specs.declared.syntax.Expr.{Expr}
+use Rattle.ep_size.specs.Free.{is_free}
 use Rattle.ep_unroll.specs.Blocks.{one_index}
 use Rattle.ep_unroll.specs.Growing.{Grows}
 use Rattle.ep_unroll.specs.Readings.{Numbering, Reading}
 use Rattle.ep_unroll.specs.declared.slots.Slot.{Slot}
 use Rattle.ep_unroll.specs.declared.slots.Slot.TheVariants.{Every, At, Open}
+
+-- no decision variable stands in an index
+abbrev pub IsFreeIndex : (Name → Bool) → Option Expr → Type 0
+IsFreeIndex decided index = IfSome index (λ e. is_free decided (expr_tree e) ≡ true)
 
 -- the index of a place, where it has one
 unfoldable pub slot_index : List GroundNode → List ℤ → Slot → Option Index

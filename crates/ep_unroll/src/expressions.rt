@@ -1,6 +1,7 @@
 //! Expressions as terms over cells.
 
 ghost use Rattle.std.specs.Prelude.{◌≡◌, ◌∷◌, true, List, Some, IfOk, map, option_map};
+ghost use Rattle.std.specs.List.{All};
 ghost use Rattle.ep_base.specs.declared.places.Place.{Place};
 ghost use Rattle.ep_ground.specs.Nodes.{GroundNode};
 ghost use Rattle.ep_tree.specs.Evaluation.{domain_values};
@@ -11,8 +12,9 @@ ghost use Rattle.ep_eval.specs.Instances.{quantified_tree};
 ghost use Rattle.ep_eval.specs.Scopes.{env_in, mode_in};
 ghost use Rattle.ep_size.specs.Free as free;
 ghost use Rattle.ep_unroll.specs.Firsts.{numbering_of};
+ghost use Rattle.ep_unroll.specs.Kinds.{AsksDomain, AsksSet, CountsNumbers, IsConnective, IsName, IsSumChain, MakesMatrix, ReadsMatrix, TakesMatrices, TakesMatrix, TakesOneTerm, TakesTwoTerms};
 ghost use Rattle.ep_unroll.specs.Meanings.{AreInstancesOf, AreNumbersOf, IsNumberOf, IsTermOf, Means};
-ghost use Rattle.ep_unroll.specs.Picks.{SlotMeans, SlotsMean};
+ghost use Rattle.ep_unroll.specs.Picks.{IsFreeIndex, SlotMeans, SlotsMean};
 ghost use Rattle.ep_unroll.specs.PartLists.{ArePartsOf, ListsTerms, parts_at, parts_in, parts_of, ranging_over};
 ghost use Rattle.ep_unroll.specs.Readings.{Numbering};
 ghost use Rattle.ep_unroll.specs.Scalars.{AreScalarsOf};
@@ -97,7 +99,9 @@ pub fn term_of(
 }
 
 /// Whether an expression of this kind is a read.
-fn is_read(kind: &Kind) -> bool {
+fn is_read(kind: &Kind) -> bool
+    ensures { result ≡ true → ReadsMatrix kind.now }
+{
     match kind {
         Kind::Read(_, _) => true,
         _ => false,
@@ -105,7 +109,9 @@ fn is_read(kind: &Kind) -> bool {
 }
 
 /// Whether an expression is a name.
-fn is_named(e: &Expr) -> bool {
+fn is_named(e: &Expr) -> bool
+    ensures { result ≡ true → IsName e.now.kind }
+{
     match &e.kind {
         Kind::Named(_) => true,
         _ => false,
@@ -182,6 +188,7 @@ fn with_one(
     arena: &mut Arena,
     kind: &Kind,
 ) -> Result<Term, Memory>
+    requires { TakesOneTerm kind.now }
     ensures { (p : Place) → IfOk result (IsTermOf (numbering_of (mode_in scope.entry) table.now) (env_in scope.entry) arena.old arena.new (kind_tree p kind.now)) }
 {
     match kind {
@@ -197,8 +204,7 @@ fn with_one(
             let term = term_of(scope, table, arena, part)?;
             finish_one(scope, arena, table.count, kind, term)
         }
-        // No other kind comes here.
-        _ => Err(Memory),
+        _ => unreachable!(),
     }
 }
 
@@ -210,6 +216,7 @@ fn with_two(
     arena: &mut Arena,
     kind: &Kind,
 ) -> Result<Term, Memory>
+    requires { TakesTwoTerms kind.now }
     ensures { (p : Place) → IfOk result (IsTermOf (numbering_of (mode_in scope.entry) table.now) (env_in scope.entry) arena.old arena.new (kind_tree p kind.now)) }
 {
     match kind {
@@ -223,8 +230,7 @@ fn with_two(
             let other = term_of(scope, table, arena, right)?;
             finish_two(scope, arena, table.count, kind, one, other)
         }
-        // No other kind comes here.
-        _ => Err(Memory),
+        _ => unreachable!(),
     }
 }
 
@@ -236,6 +242,7 @@ fn with_parts(
     arena: &mut Arena,
     kind: &Kind,
 ) -> Result<Term, Memory>
+    requires { IsConnective kind.now }
     ensures { (p : Place) → IfOk result (IsTermOf (numbering_of (mode_in scope.entry) table.now) (env_in scope.entry) arena.old arena.new (kind_tree p kind.now)) }
 {
     match kind {
@@ -247,8 +254,7 @@ fn with_parts(
             let terms = terms_of_all(scope, table, arena, parts)?;
             finish_all(scope, arena, table.count, kind, terms)
         }
-        // No other kind comes here.
-        _ => Err(Memory),
+        _ => unreachable!(),
     }
 }
 
@@ -278,6 +284,7 @@ fn with_terms(
     arena: &mut Arena,
     kind: &Kind,
 ) -> Result<Term, Memory>
+    requires { IsSumChain kind.now }
     ensures { (p : Place) → IfOk result (IsTermOf (numbering_of (mode_in scope.entry) table.now) (env_in scope.entry) arena.old arena.new (kind_tree p kind.now)) }
 {
     match kind {
@@ -285,8 +292,7 @@ fn with_terms(
             let parts = signed_terms(scope, table, arena, terms)?;
             chain_term(arena, parts)
         }
-        // No other kind comes here.
-        _ => Err(Memory),
+        _ => unreachable!(),
     }
 }
 
@@ -316,6 +322,7 @@ fn with_domain(
     arena: &mut Arena,
     kind: &Kind,
 ) -> Result<Term, Memory>
+    requires { AsksDomain kind.now }
     ensures { (p : Place) → IfOk result (IsTermOf (numbering_of (mode_in scope.entry) table.now) (env_in scope.entry) arena.old arena.new (kind_tree p kind.now)) }
 {
     match kind {
@@ -324,8 +331,7 @@ fn with_domain(
             let numbers = fixed_numbers(scope, domain)?;
             member_term(scope, arena, table.count, term, numbers)
         }
-        // No other kind comes here.
-        _ => Err(Memory),
+        _ => unreachable!(),
     }
 }
 
@@ -457,6 +463,7 @@ fn read_unrolled<'a>(
     arena: &mut Arena,
     e: &Expr,
 ) -> Result<Unrolled<'a>, Memory>
+    requires { ReadsMatrix e.now.kind }
     ensures { IfOk result (Means (numbering_of (mode_in scope.entry) table.now) (env_in scope.entry) arena.old arena.new (expr_tree e.now)) }
 {
     match &e.kind {
@@ -468,13 +475,15 @@ fn read_unrolled<'a>(
             let slots = slots_of(scope, table, arena, indices)?;
             read_with(scope, table, arena, e, known, slots)
         }
-        // No other kind comes here.
-        _ => Err(Memory),
+        _ => unreachable!(),
     }
 }
 
 /// Whether a name is read at indices in which no decision variable stands. Linear in their text.
-fn reads_cells(scope: Scope<'_, '_>, matrix: &Expr, indices: &[Option<Expr>]) -> bool {
+fn reads_cells(scope: Scope<'_, '_>, matrix: &Expr, indices: &[Option<Expr>]) -> bool
+    ensures name { result ≡ true → IsName matrix.now.kind }
+    ensures indices { result ≡ true → All (IsFreeIndex (decisions_in (env_in scope.entry))) indices.now }
+{
     is_named(matrix) && are_decided(scope, indices)
 }
 
@@ -486,6 +495,7 @@ fn matrix_unrolled<'a>(
     arena: &mut Arena,
     kind: &Kind,
 ) -> Result<Unrolled<'a>, Memory>
+    requires { MakesMatrix kind.now }
     ensures { (p : Place) → IfOk result (Means (numbering_of (mode_in scope.entry) table.now) (env_in scope.entry) arena.old arena.new (kind_tree p kind.now)) }
 {
     match kind {
@@ -503,8 +513,7 @@ fn matrix_unrolled<'a>(
             let known = unrolled(scope, table, arena, part)?;
             flattened(scope.alloc, known)
         }
-        // No other kind comes here.
-        _ => Err(Memory),
+        _ => unreachable!(),
     }
 }
 
@@ -665,6 +674,7 @@ fn with_matrix(
     arena: &mut Arena,
     kind: &Kind,
 ) -> Result<Term, Memory>
+    requires { TakesMatrix kind.now }
     ensures { (p : Place) → IfOk result (IsTermOf (numbering_of (mode_in scope.entry) table.now) (env_in scope.entry) arena.old arena.new (kind_tree p kind.now)) }
 {
     match kind {
@@ -676,8 +686,7 @@ fn with_matrix(
             let known = unrolled(scope, table, arena, part)?;
             folded_term(scope, arena, table.count, *op, known)
         }
-        // No other kind comes here.
-        _ => Err(Memory),
+        _ => unreachable!(),
     }
 }
 
@@ -689,6 +698,7 @@ fn with_set(
     arena: &mut Arena,
     kind: &Kind,
 ) -> Result<Term, Memory>
+    requires { AsksSet kind.now }
     ensures { (p : Place) → IfOk result (IsTermOf (numbering_of (mode_in scope.entry) table.now) (env_in scope.entry) arena.old arena.new (kind_tree p kind.now)) }
 {
     match kind {
@@ -701,8 +711,7 @@ fn with_set(
             let terms = scalars_of(scope, table, arena, matrix)?;
             chosen_member(scope, arena, table.count, term, &terms)
         }
-        // No other kind comes here.
-        _ => Err(Memory),
+        _ => unreachable!(),
     }
 }
 
@@ -714,6 +723,7 @@ fn with_matrices(
     arena: &mut Arena,
     kind: &Kind,
 ) -> Result<Term, Memory>
+    requires { TakesMatrices kind.now }
     ensures { (p : Place) → IfOk result (IsTermOf (numbering_of (mode_in scope.entry) table.now) (env_in scope.entry) arena.old arena.new (kind_tree p kind.now)) }
 {
     match kind {
@@ -727,8 +737,7 @@ fn with_matrices(
             let own = fixed_rows(scope, rows)?;
             table_term(scope, arena, table.count, terms, own)
         }
-        // No other kind comes here.
-        _ => Err(Memory),
+        _ => unreachable!(),
     }
 }
 
@@ -740,6 +749,7 @@ fn with_counts(
     arena: &mut Arena,
     kind: &Kind,
 ) -> Result<Term, Memory>
+    requires { CountsNumbers kind.now }
     ensures { (p : Place) → IfOk result (IsTermOf (numbering_of (mode_in scope.entry) table.now) (env_in scope.entry) arena.old arena.new (kind_tree p kind.now)) }
 {
     match kind {
@@ -761,7 +771,6 @@ fn with_counts(
             let own = fixed_scalars(scope, values)?;
             at_most_term(scope, arena, table.count, terms, bounds, own)
         }
-        // No other kind comes here.
-        _ => Err(Memory),
+        _ => unreachable!(),
     }
 }

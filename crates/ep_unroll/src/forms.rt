@@ -13,6 +13,7 @@ ghost use Rattle.ep_tree.specs.Views.{kind_tree};
 ghost use Rattle.ep_tree.specs.declared.syntax.BinaryOp.{BinaryOp as EachOp};
 ghost use Rattle.ep_unroll.specs.Lists.{all_parts};
 ghost use Rattle.ep_unroll.specs.Growing.{Puts};
+ghost use Rattle.ep_unroll.specs.Kinds.{IsConnective, TakesOneTerm, TakesTwoTerms};
 ghost use Rattle.ep_unroll.specs.Meanings.{AreNumbersOf, IsNumberOf, IsTermOf};
 ghost use Rattle.ep_size.specs.Parts.{part_of, two_parts};
 ghost use Rattle.ep_unroll.specs.Readings.{Numbering};
@@ -54,7 +55,8 @@ pub fn finish_one(
     kind: &Kind,
     part: Term,
 ) -> Result<Term, Memory>
-    requires { part < length arena.old }
+    requires part { part < length arena.old }
+    requires kind { TakesOneTerm kind.now }
     ensures { (n : Numbering) → (cells : names.Env) → (nodes : List GroundNode) → (p : Place) → (e : ExprTree)
         → part_of (kind_tree p kind.now) ≡ Some e → n.mode ≡ mode_in scope.entry → n.count ≡ count
         → IsNumberOf n cells nodes arena.old e part
@@ -67,8 +69,7 @@ pub fn finish_one(
         }
         Kind::Abs(_) => put(arena, Node::Abs(part)),
         Kind::Neg(_) => negated(scope.alloc, arena, part),
-        // No other kind comes here.
-        _ => Err(Memory),
+        _ => unreachable!(),
     }
 }
 
@@ -179,6 +180,7 @@ pub fn finish_two(
 ) -> Result<Term, Memory>
     requires one { one < length arena.old }
     requires other { other < length arena.old }
+    requires kind { TakesTwoTerms kind.now }
     ensures { (n : Numbering) → (cells : names.Env) → (nodes : List GroundNode) → (p : Place) → (e : ExprTree) → (f : ExprTree)
         → two_parts (kind_tree p kind.now) ≡ Some (e, f) → n.mode ≡ mode_in scope.entry → n.count ≡ count
         → IsNumberOf n cells nodes arena.old e one → IsNumberOf n cells nodes arena.old f other
@@ -187,8 +189,7 @@ pub fn finish_two(
     match kind {
         Kind::Compare(op, _, _) => comparison(scope, arena, count, *op, one, other),
         Kind::Binary(op, _, _) => finish_binary(scope, arena, count, *op, one, other),
-        // No other kind comes here.
-        _ => Err(Memory),
+        _ => unreachable!(),
     }
 }
 
@@ -200,7 +201,8 @@ pub fn finish_all(
     kind: &Kind,
     parts: Vec<Term>,
 ) -> Result<Term, Memory>
-    requires { All (λ part. part < length arena.old) parts.items }
+    requires parts { All (λ part. part < length arena.old) parts.items }
+    requires kind { IsConnective kind.now }
     ensures { (n : Numbering) → (cells : names.Env) → (nodes : List GroundNode) → (p : Place) → (es : ExprTrees)
         → all_parts (kind_tree p kind.now) ≡ Some es → n.mode ≡ mode_in scope.entry → n.count ≡ count
         → AreNumbersOf n cells nodes arena.old es parts.items
@@ -210,7 +212,6 @@ pub fn finish_all(
     match kind {
         Kind::And(_) => judged(arena, Node::And(parts), needed),
         Kind::Or(_) => judged(arena, Node::Or(parts), needed),
-        // No other kind comes here.
-        _ => Err(Memory),
+        _ => unreachable!(),
     }
 }

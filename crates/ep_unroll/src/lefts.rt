@@ -98,7 +98,7 @@ fn left_of<'a>(
     match indices.split_first() {
         Some((index, rest)) => match known {
             // A number has no part.
-            Unrolled::Number(_) => Err(Memory),
+            Unrolled::Number(_) => Ok(Unrolled::Fixed(None)),
             Unrolled::Cells(first, domains) => {
                 let block = Block {
                     first: *first,

@@ -1,9 +1,11 @@
 //! Reads of decision variables at indices in which no decision variable stands.
 
 ghost use Rattle.std.specs.Prelude.{◌≡◌, ◌∷◌, ℕ, ℤ, true, false, List, Option, Some, IfOk, map, option_map};
+ghost use Rattle.std.specs.List.{All};
 ghost use Rattle.ep_base.specs.declared.places.Place.{Place};
 ghost use Rattle.ep_ground.specs.Nodes.{GroundNode};
 ghost use Rattle.ep_tree.specs.Evaluation.{index_list, read_result};
+ghost use Rattle.ep_tree.specs.Reach.{decisions_in};
 ghost use Rattle.ep_tree.specs.Trees.{named, read};
 ghost use Rattle.ep_tree.specs.Values.{ValueTree, any_index, index_in, indices_in, read_value};
 ghost use Rattle.ep_tree.specs.Views.{expr_tree, indices_of};
@@ -13,12 +15,14 @@ ghost use Rattle.ep_eval.specs.Helds.{seen_held};
 ghost use Rattle.ep_eval.specs.Scopes.{env_in, mode_in};
 ghost use Rattle.ep_unroll.specs.Blocks.{IsWorth, one_index};
 ghost use Rattle.ep_unroll.specs.Firsts.{numbering_of};
+ghost use Rattle.ep_unroll.specs.Kinds.{IsName};
 ghost use Rattle.ep_unroll.specs.Meanings.{AreTerms, Means, worth};
+ghost use Rattle.ep_unroll.specs.Picks.{IsFreeIndex};
 ghost use Rattle.ep_unroll.specs.Readings.{Numbering, Reading, cells_value};
 
 use super::blocks::{Block, block_at, cells_over};
 use super::firsts::CellTable;
-use super::fixed::{fixed_value, is_fixed};
+use super::fixed::fixed_value;
 use super::named::block_named;
 use super::unrolled::Unrolled;
 use ep_base::{Memory, Name, Runs};
@@ -26,16 +30,14 @@ use ep_eval::{Held, Scope, next_number, number_of, type_within, walk_of};
 use ep_tree::{Expr, Kind, Mode, ValueType};
 use std::alloc::Global;
 
-/// The number of an index, in which no decision variable may stand, or `..`; nothing where it has no number.
+/// The number of an index in which no decision variable stands, or `..`; nothing where it has no number.
 fn fixed_index(scope: Scope<'_, '_>, index: &Option<Expr>) -> Result<Option<Option<i64>>, Memory>
+    requires { IsFreeIndex (decisions_in (env_in scope)) index.now }
     ensures { IfOk result (λ found. (n : Numbering) → (r : Reading n (env_in scope.entry))
         → one_index (mode_in scope.entry) r.values index.now ≡ option_map index_in found) }
 {
     match index {
         Some(stated) => {
-            if !is_fixed(scope, stated) {
-                return Err(Memory);
-            }
             let seen = fixed_value(scope, stated)?;
             match number_of(&seen) {
                 Some(number) => Ok(Some(Some(number))),
@@ -51,6 +53,7 @@ fn fixed_indices(
     scope: Scope<'_, '_>,
     indices: &[Option<Expr>],
 ) -> Result<Option<Vec<Option<i64>>>, Memory>
+    requires { All (IsFreeIndex (decisions_in (env_in scope))) indices.now }
     ensures { IfOk result (λ found. (n : Numbering) → (r : Reading n (env_in scope.entry))
         → index_list (mode_in scope.entry) r.values (indices_of indices.now) ≡ option_map (λ v. indices_in v.items) found) }
 {
@@ -257,7 +260,7 @@ pub fn finish_read<'a>(
     }
 }
 
-/// A read of a decision variable.
+/// A read of a decision variable at indices in which none stands.
 pub fn read_named<'a>(
     scope: Scope<'_, 'a>,
     table: &CellTable,
@@ -265,6 +268,7 @@ pub fn read_named<'a>(
     name: &Name,
     indices: &[Option<Expr>],
 ) -> Result<Unrolled<'a>, Memory>
+    requires { All (IsFreeIndex (decisions_in (env_in scope))) indices.now }
     ensures { (nodes : List GroundNode) → (p q : Place) → expr_tree e.now ≡ read p (named q name.now) (indices_of indices.now)
         → IfOk result (Means (numbering_of (mode_in scope.entry) table.now) (env_in scope.entry) nodes nodes (expr_tree e.now)) }
 {
@@ -280,7 +284,7 @@ pub fn read_named<'a>(
     }
 }
 
-/// A read of a matrix with these indices. Where that is no decision variable's name, it ends as want of memory.
+/// A read of a name at indices in which no decision variable stands.
 pub fn read_of<'a>(
     scope: Scope<'_, 'a>,
     table: &CellTable,
@@ -288,11 +292,13 @@ pub fn read_of<'a>(
     matrix: &Expr,
     indices: &[Option<Expr>],
 ) -> Result<Unrolled<'a>, Memory>
+    requires name { IsName matrix.now.kind }
+    requires indices { All (IsFreeIndex (decisions_in (env_in scope))) indices.now }
     ensures { (nodes : List GroundNode) → (p : Place) → expr_tree e.now ≡ read p (expr_tree matrix.now) (indices_of indices.now)
         → IfOk result (Means (numbering_of (mode_in scope.entry) table.now) (env_in scope.entry) nodes nodes (expr_tree e.now)) }
 {
     match &matrix.kind {
         Kind::Named(name) => read_named(scope, table, e, name, indices),
-        _ => Err(Memory),
+        _ => unreachable!(),
     }
 }

@@ -1,13 +1,14 @@
 //! Indices of reads in which decision variables may stand.
 
 ghost use Rattle.std.specs.Prelude.{◌≡◌, true, List, Some, IfOk};
+ghost use Rattle.std.specs.List.{All};
 ghost use Rattle.ep_ground.specs.Nodes.{GroundNode};
 ghost use Rattle.ep_tree.specs.Reach.{decisions_in};
 ghost use Rattle.ep_tree.specs.Views.{expr_tree};
 ghost use Rattle.ep_eval.specs.Scopes.{env_in, mode_in};
 ghost use Rattle.ep_size.specs.Free as free;
 ghost use Rattle.ep_unroll.specs.Picks as defined;
-ghost use Rattle.ep_unroll.specs.Picks.{SlotMeans};
+ghost use Rattle.ep_unroll.specs.Picks.{IsFreeIndex, SlotMeans};
 ghost use Rattle.ep_unroll.specs.Readings.{Numbering};
 
 use super::fixed::{fixed_value, is_fixed};
@@ -43,13 +44,23 @@ pub fn open_terms(alloc: Global, slots: &[Slot]) -> Result<Vec<Term>, Memory>
     Ok(terms)
 }
 
+/// Whether no decision variable stands in an index. Linear in its text.
+fn is_decided(scope: Scope<'_, '_>, index: &Option<Expr>) -> bool
+    ensures { result ≡ true → IsFreeIndex (decisions_in (env_in scope.entry)) index.now }
+{
+    match index {
+        Some(stated) => is_fixed(scope, stated),
+        None => true,
+    }
+}
+
 /// Whether no decision variable stands in indices. Linear in their text.
-pub fn are_decided(scope: Scope<'_, '_>, indices: &[Option<Expr>]) -> bool {
+pub fn are_decided(scope: Scope<'_, '_>, indices: &[Option<Expr>]) -> bool
+    ensures { result ≡ true → All (IsFreeIndex (decisions_in (env_in scope.entry))) indices.now }
+{
     for index in indices {
-        if let Some(stated) = index {
-            if !is_fixed(scope, stated) {
-                return false;
-            }
+        if !is_decided(scope, index) {
+            return false;
         }
     }
     true

@@ -1,4 +1,4 @@
-use Rattle.std.proofs.Common.{[], ap, arith, length, of_z, refl, subst, sym, to_z, w64, ◌++◌, ◌<◌, ◌≤◌, ◌∙◌, ◌∷◌, ◌≡◌, List, Some, None}
+use Rattle.std.proofs.Common.{[], ap, arith, inl, inr, length, of_z, refl, subst, sym, to_z, w64, ◌++◌, ◌<◌, ◌≤◌, ◌∙◌, ◌∷◌, ◌≡◌, List, Some, None}
 use Rattle.std.specs.Prelude.{option_map}
 use Rattle.std.proofs.lemmas.Int.{ints, to_z-of_z}
 use Rattle.ep_eval.proofs.Depths.{quantifier_depth, second_within}
@@ -14,7 +14,8 @@ use Rattle.ep_tree.specs.Environments.{scalar_in, with_number}
 use Rattle.ep_tree.specs.Trees.{absolute, all_of, any_of, binary, chain, compare, group, in_domain, minus, negation, quantified, to_int, read}
 use Rattle.ep_tree.specs.Views.{domain_tree, expr_tree, expr_trees, kind_tree, terms_of, indices_of}
 use Rattle.ep_tree.specs.declared.syntax.Domain.{size-Domain}
-use Rattle.ep_tree.specs.declared.syntax.Expr.{size-Expr}
+use Rattle.ep_tree.specs.Reach.{decisions_in}
+use Rattle.ep_tree.specs.declared.syntax.Expr.{Expr, size-Expr}
 use Rattle.ep_unroll.proofs.CycleSteps.{bare_means, group_means, instances_all, instances_begin, instances_more, number_from, signed_all, signed_begin, signed_more, terms_all, terms_begin, terms_more, to_int_means}
 use Rattle.ep_unroll.proofs.FormValues.{grows_long, if_ok, number_grown, grows_on}
 use Rattle.ep_unroll.proofs.TypedReadings.{domain_numbers, number_next, numbers_behind}
@@ -24,7 +25,8 @@ use Rattle.ep_unroll.specs.Lists.{all_parts}
 use Rattle.ep_unroll.specs.Meanings.{IsNumberOf, IsTermOf, Means}
 use Rattle.ep_unroll.specs.declared.unrolled.Unrolled.{Number}
 use Rattle.ep_unroll.proofs.SlotSteps.{every_slot, open_slot, slots_all, slots_begin, slots_from, slots_grow, slots_more, slots_none, slots_known}
-use Rattle.ep_unroll.specs.Picks.{SlotMeans, SlotsMean}
+use Rattle.ep_unroll.specs.Kinds.{IsName}
+use Rattle.ep_unroll.specs.Picks.{IsFreeIndex, SlotMeans, SlotsMean}
 use Rattle.std.specs.Prelude.{map}
 use denote.Param.Weighed.{most}
 use Rattle.ep_eval.proofs.Depths.{first_within}
@@ -49,6 +51,10 @@ use Rattle.std.specs.List.{All}
 use Rattle.ep_unroll.specs.declared.comprehensions.Listing.{Listing}
 use Rattle.ep_unroll.specs.declared.unrolled.Unrolled.{Unrolled}
 use Rattle.ep_unroll.proofs.expressions.+unrolling.Goals as goal
+
+-- an expression is a name
+abbrev IsNamed : Expr → Type 0
+IsNamed e = IsName e.kind
 
 pub unrolled-fixed-requires : goal.unrolled-fixed-requires
 unrolled-fixed-requires t c = c.is_fixed.ensures c.if-is_fixed.true
@@ -109,7 +115,7 @@ number_unrolled-returns t c p =
     term_means n env c.args.arena.now c.kind_term.new.arena (kind_tree p c.args.kind.now) c.in_ok-term.term (c.in_ok-term.ensures p)
 
 pub with_one-finish_one-requires : goal.with_one-finish_one-requires
-with_one-finish_one-requires t c = c.in_ok-term-in-Not.ensures.known
+with_one-finish_one-requires t c = record { part = c.in_ok-term-in-Not.ensures.known; kind = inl (c.in-Not.part, c.in-Not.is) }
 
 pub with_one-returns-in_ok-term-in-Not : goal.with_one-returns-in_ok-term-in-Not
 unfolding part_of
@@ -121,7 +127,7 @@ with_one-returns-in_ok-term-in-Not t c p =
     c.finish_one.ensures n env c.args.arena.now p e (ap part_of is) refl refl c.in_ok-term-in-Not.ensures
 
 pub with_one-finish_one-requires-in-Neg : goal.with_one-finish_one-requires-in-Neg
-with_one-finish_one-requires-in-Neg t c = c.in_ok-term-in-Neg.ensures.known
+with_one-finish_one-requires-in-Neg t c = record { part = c.in_ok-term-in-Neg.ensures.known; kind = inr (inl (c.in-Neg.part, c.in-Neg.is)) }
 
 pub with_one-returns-in_ok-term-in-Neg : goal.with_one-returns-in_ok-term-in-Neg
 unfolding part_of
@@ -133,7 +139,7 @@ with_one-returns-in_ok-term-in-Neg t c p =
     c.finish_one-in-Neg.ensures n env c.args.arena.now p e (ap part_of is) refl refl c.in_ok-term-in-Neg.ensures
 
 pub with_one-finish_one-requires-in-Abs : goal.with_one-finish_one-requires-in-Abs
-with_one-finish_one-requires-in-Abs t c = c.in_ok-term-in-Abs.ensures.known
+with_one-finish_one-requires-in-Abs t c = record { part = c.in_ok-term-in-Abs.ensures.known; kind = inr (inr (c.in-Abs.part, c.in-Abs.is)) }
 
 pub with_one-returns-in_ok-term-in-Abs : goal.with_one-returns-in_ok-term-in-Abs
 unfolding part_of
@@ -148,6 +154,7 @@ pub with_two-finish_two-requires : goal.with_two-finish_two-requires
 with_two-finish_two-requires t c = record {
   one = grows_long c.term_of.new.arena c.term_of-in-Binary.new.arena c.in_ok-one-in-Binary.one c.in_ok-other-in-Binary.ensures.grows c.in_ok-one-in-Binary.ensures.known;
   other = c.in_ok-other-in-Binary.ensures.known;
+  kind = inl (c.in-Binary.field-0, c.in-Binary.left, c.in-Binary.right, c.in-Binary.is);
 }
 
 pub with_two-returns-in_ok-other-in-Binary : goal.with_two-returns-in_ok-other-in-Binary
@@ -167,6 +174,7 @@ pub with_two-finish_two-requires-in-Compare : goal.with_two-finish_two-requires-
 with_two-finish_two-requires-in-Compare t c = record {
   one = grows_long c.term_of-in-Compare.new.arena c.term_of-in-Compare-2.new.arena c.in_ok-one-in-Compare.one c.in_ok-other-in-Compare.ensures.grows c.in_ok-one-in-Compare.ensures.known;
   other = c.in_ok-other-in-Compare.ensures.known;
+  kind = inr (c.in-Compare.field-0, c.in-Compare.left, c.in-Compare.right, c.in-Compare.is);
 }
 
 pub with_two-returns-in_ok-other-in-Compare : goal.with_two-returns-in_ok-other-in-Compare
@@ -183,7 +191,7 @@ with_two-returns-in_ok-other-in-Compare t c p =
     (number_from n env c.args.arena.now c.term_of-in-Compare.new.arena c.term_of-in-Compare-2.new.arena f c.in_ok-other-in-Compare.other c.in_ok-one-in-Compare.ensures.grows c.in_ok-other-in-Compare.ensures)
 
 pub with_parts-finish_all-requires : goal.with_parts-finish_all-requires
-with_parts-finish_all-requires t c = c.in_ok-terms-in-And.ensures.known
+with_parts-finish_all-requires t c = record { parts = c.in_ok-terms-in-And.ensures.known; kind = inl (c.in-And.parts, c.in-And.is) }
 
 pub with_parts-returns-in_ok-terms-in-And : goal.with_parts-returns-in_ok-terms-in-And
 unfolding all_parts
@@ -195,7 +203,7 @@ with_parts-returns-in_ok-terms-in-And t c p =
     c.finish_all.ensures n env c.args.arena.now p (expr_trees xs) (ap all_parts is) refl refl c.in_ok-terms-in-And.ensures
 
 pub with_parts-finish_all-requires-in-Or : goal.with_parts-finish_all-requires-in-Or
-with_parts-finish_all-requires-in-Or t c = c.in_ok-terms-in-Or.ensures.known
+with_parts-finish_all-requires-in-Or t c = record { parts = c.in_ok-terms-in-Or.ensures.known; kind = inr (c.in-Or.parts, c.in-Or.is) }
 
 pub with_parts-returns-in_ok-terms-in-Or : goal.with_parts-returns-in_ok-terms-in-Or
 unfolding all_parts
@@ -845,3 +853,93 @@ with_counts-returns-in_ok-own-in-AtMost t c p =
     ∙ ap (λ x. at_most p e (expr_tree x) (expr_tree c.in-AtMost.values.value)) (sym c.deref-in-AtMost-2.ensures) ∙ ap (λ x. at_most p e f (expr_tree x)) (sym c.deref-in-AtMost-3.ensures) in
     if_ok c.at_most_term.result _ _ (λ x h. subst (λ y. IsTermOf n env old c.at_most_term.new.arena y x) (sym is) h)
     (c.at_most_term.ensures n env old p e f g refl refl c.in_ok-terms-in-AtMost.ensures (c.in_ok-bounds-in-AtMost.ensures n) (c.in_ok-own-in-AtMost.ensures n))
+
+-- ---- kinds that come to a function, and no other
+
+pub unrolled-read_unrolled-requires : goal.unrolled-read_unrolled-requires
+unrolled-read_unrolled-requires t c = (omega (arith, c.decreases), c.is_read.ensures c.if-is_read.true)
+
+pub kind_unrolled-matrix_unrolled-requires : goal.kind_unrolled-matrix_unrolled-requires
+kind_unrolled-matrix_unrolled-requires t c = (omega (arith, c.decreases), c.in-Flatten.is)
+
+pub kind_term-with_one-requires : goal.kind_term-with_one-requires
+kind_term-with_one-requires t c = (omega (arith, c.decreases), c.in-Not.is)
+
+pub kind_term-with_two-requires : goal.kind_term-with_two-requires
+kind_term-with_two-requires t c = (omega (arith, c.decreases), c.in-Binary.is)
+
+pub kind_term-with_parts-requires : goal.kind_term-with_parts-requires
+kind_term-with_parts-requires t c = (omega (arith, c.decreases), c.in-And.is)
+
+pub kind_term-with_terms-requires : goal.kind_term-with_terms-requires
+kind_term-with_terms-requires t c = (omega (arith, c.decreases), (c.in-Add.field-0, c.in-Add.is))
+
+pub kind_term-with_domain-requires : goal.kind_term-with_domain-requires
+kind_term-with_domain-requires t c = (omega (arith, c.decreases), (c.in-InDomain.field-0, c.in-InDomain.field-1, c.in-InDomain.is))
+
+pub kind_term-with_set-requires : goal.kind_term-with_set-requires
+kind_term-with_set-requires t c = (omega (arith, c.decreases), (c.in-InSet.field-0, c.in-InSet.field-1, c.in-InSet.is))
+
+pub kind_term-with_matrix-requires : goal.kind_term-with_matrix-requires
+kind_term-with_matrix-requires t c = (omega (arith, c.decreases), c.in-Fold.is)
+
+pub kind_term-with_matrices-requires : goal.kind_term-with_matrices-requires
+kind_term-with_matrices-requires t c = (omega (arith, c.decreases), c.in-Lex.is)
+
+pub kind_term-with_counts-requires : goal.kind_term-with_counts-requires
+kind_term-with_counts-requires t c = (omega (arith, c.decreases), c.in-Gcc.is)
+
+pub read_unrolled-read_of-requires : goal.read_unrolled-read_of-requires
+read_unrolled-read_of-requires t c = record {
+  name = subst IsNamed (c.deref.ensures ∙ sym c.deref-then-reads_cells.ensures) (c.reads_cells.ensures.name c.if-reads_cells.true);
+  indices = subst (All (IsFreeIndex (decisions_in (env_in c.args.scope)))) (c.deref-in-Read.ensures.value ∙ sym c.deref-then-reads_cells-2.ensures.value) (c.reads_cells.ensures.indices c.if-reads_cells.true);
+}
+
+pub with_one-unreachable-requires : goal.with_one-unreachable-requires
+with_one-unreachable-requires t c =
+    elim c.requires as (λ _. ⊥) [
+      | inl h ↦ c.in_default.not-Not h.0 h.1
+      | inr h ↦ elim h as (λ _. ⊥) [ inl k ↦ c.in_default.not-Neg k.0 k.1 | inr k ↦ c.in_default.not-Abs k.0 k.1 ]
+    ]
+
+pub with_two-unreachable-requires : goal.with_two-unreachable-requires
+with_two-unreachable-requires t c =
+    elim c.requires as (λ _. ⊥) [ inl h ↦ c.in_default.not-Binary h.0 h.1 h.2 h.3 | inr h ↦ c.in_default.not-Compare h.0 h.1 h.2 h.3 ]
+
+pub with_parts-unreachable-requires : goal.with_parts-unreachable-requires
+with_parts-unreachable-requires t c =
+    elim c.requires as (λ _. ⊥) [ inl h ↦ c.in_default.not-And h.0 h.1 | inr h ↦ c.in_default.not-Or h.0 h.1 ]
+
+pub with_terms-unreachable-requires : goal.with_terms-unreachable-requires
+with_terms-unreachable-requires t c = c.in_default.not-Add c.requires.0 c.requires.1
+
+pub with_domain-unreachable-requires : goal.with_domain-unreachable-requires
+with_domain-unreachable-requires t c = c.in_default.not-InDomain c.requires.0 c.requires.1 c.requires.2
+
+pub with_set-unreachable-requires : goal.with_set-unreachable-requires
+with_set-unreachable-requires t c = c.in_default.not-InSet c.requires.0 c.requires.1 c.requires.2
+
+pub with_matrix-unreachable-requires : goal.with_matrix-unreachable-requires
+with_matrix-unreachable-requires t c =
+    elim c.requires as (λ _. ⊥) [ inl h ↦ c.in_default.not-Fold h.0 h.1 h.2 | inr h ↦ c.in_default.not-AllDiff h.0 h.1 ]
+
+pub with_matrices-unreachable-requires : goal.with_matrices-unreachable-requires
+with_matrices-unreachable-requires t c =
+    elim c.requires as (λ _. ⊥) [ inl h ↦ c.in_default.not-Lex h.0 h.1 h.2 h.3 | inr h ↦ c.in_default.not-Table h.0 h.1 h.2 ]
+
+pub with_counts-unreachable-requires : goal.with_counts-unreachable-requires
+with_counts-unreachable-requires t c =
+    elim c.requires as (λ _. ⊥) [
+      | inl h ↦ c.in_default.not-Gcc h.0 h.1 h.2 h.3
+      | inr h ↦ elim h as (λ _. ⊥) [ inl k ↦ c.in_default.not-AtLeast k.0 k.1 k.2 k.3 | inr k ↦ c.in_default.not-AtMost k.0 k.1 k.2 k.3 ]
+    ]
+
+pub matrix_unrolled-unreachable-requires : goal.matrix_unrolled-unreachable-requires
+matrix_unrolled-unreachable-requires t c =
+    elim c.requires as (λ _. ⊥) [
+      | inl h ↦ c.in_default.not-Flatten h.0 h.1
+      | inr h ↦ elim h as (λ _. ⊥) [ inl k ↦ c.in_default.not-Literal k.0 k.1 k.2 | inr k ↦ c.in_default.not-Comprehension k.0 k.1 k.2 k.3 k.4 ]
+    ]
+
+pub read_unrolled-unreachable-requires : goal.read_unrolled-unreachable-requires
+read_unrolled-unreachable-requires t c = c.in_default.not-Read c.requires.0 c.requires.1 c.requires.2

@@ -1,4 +1,4 @@
-use Rattle.std.proofs.Common.{ap, ◌∙◌, ◌∷◌, [], length, refl}
+use Rattle.std.proofs.Common.{ap, inl, inr, ◌∙◌, ◌∷◌, [], length, refl}
 use Rattle.ep_eval.specs.Scopes.{mode_in}
 use Rattle.ep_ground.specs.Nodes.{parts_of}
 use Rattle.ep_size.specs.Parts.{part_of}
@@ -11,11 +11,11 @@ use Rattle.ep_unroll.proofs.forms.finish_one.Goals as goal
 
 pub judged-requires : goal.judged-requires
 unfolding parts_of
-judged-requires c = record { node = one_known c.args.part (length c.args.arena.now) c.requires; others = c.in_ok-needed-in-Not.ensures.known }
+judged-requires c = record { node = one_known c.args.part (length c.args.arena.now) c.requires.part; others = c.in_ok-needed-in-Not.ensures.known }
 
 pub put-requires : goal.put-requires
 unfolding parts_of
-put-requires c = one_known c.args.part (length c.args.arena.now) c.requires
+put-requires c = one_known c.args.part (length c.args.arena.now) c.requires.part
 
 pub returns-in_ok-needed-in-Not : goal.returns-in_ok-needed-in-Not
 unfolding part_of
@@ -40,3 +40,10 @@ returns-in-Neg c n cells nodes p e part mode count h =
     one_given n cells nodes c.args.arena.now c.negated.new.arena (kind_tree p c.args.kind.now) e (expr_tree c.in-Neg.field-0.value) (minus p) c.args.part _ c.negated.result
     (ap (kind_tree p) c.in-Neg.is ∙ kind_tree-minus p c.in-Neg.field-0) refl part
     (λ f t. minus_term n cells nodes c.args.arena.now c.negated.new.arena p f c.args.part t) h c.negated.ensures
+
+pub unreachable-requires : goal.unreachable-requires
+unreachable-requires c =
+    elim c.requires.kind as (λ _. ⊥) [
+      | inl h ↦ c.in_default.not-Not h.0 h.1
+      | inr h ↦ elim h as (λ _. ⊥) [ inl k ↦ c.in_default.not-Neg k.0 k.1 | inr k ↦ c.in_default.not-Abs k.0 k.1 ]
+    ]

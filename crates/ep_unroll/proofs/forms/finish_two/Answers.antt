@@ -1,4 +1,4 @@
-use Rattle.std.proofs.Common.{ap, ◌∙◌, ◌∷◌, [], refl}
+use Rattle.std.proofs.Common.{ap, inl, inr, ◌∙◌, ◌∷◌, [], refl}
 use Rattle.ep_eval.specs.Scopes.{mode_in}
 use Rattle.ep_size.specs.Parts.{two_parts}
 use Rattle.ep_tree.proofs.ViewLemmas.{kind_tree-binary, kind_tree-compare}
@@ -24,3 +24,7 @@ returns-in-Binary c n cells nodes p e f parts mode count h k =
     two_given n cells nodes c.args.arena.now c.finish_binary.new.arena (kind_tree p c.args.kind.now) e f (expr_tree c.in-Binary.field-1.value) (expr_tree c.in-Binary.field-2.value)
     (binary p c.in-Binary.op) c.finish_binary.result (ap (kind_tree p) c.in-Binary.is ∙ kind_tree-binary p c.in-Binary.op c.in-Binary.field-1 c.in-Binary.field-2) refl parts
     (c.finish_binary.ensures n cells nodes p e f mode count h k)
+
+pub unreachable-requires : goal.unreachable-requires
+unreachable-requires c =
+    elim c.requires.kind as (λ _. ⊥) [ inl h ↦ c.in_default.not-Binary h.0 h.1 h.2 h.3 | inr h ↦ c.in_default.not-Compare h.0 h.1 h.2 h.3 ]

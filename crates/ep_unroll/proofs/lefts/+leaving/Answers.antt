@@ -7,7 +7,7 @@ use Rattle.ep_tree.specs.Values.{index_in, indices_in, read_value}
 use Rattle.ep_unroll.proofs.EntrySteps.{part_terms}
 use Rattle.ep_unroll.proofs.FormValues.{if_ok}
 use Rattle.ep_unroll.proofs.GrownParts.{matrix_terms, matrix_worth}
-use Rattle.ep_unroll.proofs.LeftSteps.{left_begin, left_done, left_more, left_nowhere, left_part, left_terms, nothing_seen}
+use Rattle.ep_unroll.proofs.LeftSteps.{left_begin, left_done, left_more, left_nowhere, left_part, left_terms, nothing_seen, number_left}
 use Rattle.ep_unroll.proofs.PartSteps.{is_worth}
 use Rattle.ep_unroll.specs.Lefts.{IsLeft}
 use Rattle.ep_unroll.specs.Meanings.{AreTerms, worth}
@@ -51,6 +51,15 @@ unfolding index_in
 left_in-returns-in-None-clause-worth t c =
     if_ok c.left_of_each.result _ _
     (λ x h. subst (λ i. IsLeft (λ nodes numbers. parts_worth c.args.own.now nodes numbers c.args.parts.now) (index_in i ∷ indices_in c.args.rest.now) x) (sym c.in-None.is) h) c.left_of_each.ensures.worth
+
+pub left_of-returns-in-Number-clause-worth : goal.left_of-returns-in-Number-clause-worth
+left_of-returns-in-Number-clause-worth t c =
+    subst (λ is. IsLeft (λ nodes numbers. worth nodes numbers c.args.known.now) (indices_in is) (Fixed None)) (sym c.in-Some.ensures.cases.0)
+    (number_left c.args.known.now c.in-Number.field-0 (index_in c.in-Some.index.now) (indices_in c.in-Some.rest.now) c.in-Number.is)
+
+pub left_of-returns-in-Number-clause-terms : goal.left_of-returns-in-Number-clause-terms
+unfolding AreTerms
+left_of-returns-in-Number-clause-terms t c count known = tt
 
 pub left_of-returns-in-Cells-clause-worth : goal.left_of-returns-in-Cells-clause-worth
 unfolding worth

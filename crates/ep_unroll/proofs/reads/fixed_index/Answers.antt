@@ -1,10 +1,15 @@
-use Rattle.std.proofs.Common.{ap, ◌∙◌, sym, Some, arith, w64}
+use Rattle.std.proofs.Common.{ap, ◌∙◌, subst, sym, Some, arith, w64}
 use Rattle.std.proofs.lemmas.Int.{ints, to_z-of_z}
-use Rattle.ep_eval.specs.Scopes.{mode_in}
+use Rattle.ep_eval.specs.Scopes.{env_in, mode_in}
+use Rattle.ep_tree.specs.Reach.{decisions_in}
+use Rattle.ep_unroll.specs.Picks.{IsFreeIndex}
 use Rattle.ep_tree.specs.Evaluation.{number_in}
 use Rattle.ep_tree.specs.Values.{index_in}
 use Rattle.ep_unroll.proofs.PartSteps.{every_index, no_number, some_index}
 use Rattle.ep_unroll.proofs.reads.fixed_index.Goals as goal
+
+pub fixed_value-requires : goal.fixed_value-requires
+fixed_value-requires c = subst (IsFreeIndex (decisions_in (env_in c.args.scope))) c.in-Some.is c.requires
 
 pub returns-in-Some-number_of : goal.returns-in-Some-number_of
 returns-in-Some-number_of c n r =

@@ -1,9 +1,18 @@
-use Rattle.std.proofs.Common.{ap, ◌∙◌}
+use Rattle.std.proofs.Common.{Option, ap, subst, sym, ◌∙◌}
+use Rattle.std.proofs.lemmas.List.Elements.{All-get_or}
 use Rattle.std.specs.Prelude.{option_map}
-use Rattle.ep_eval.specs.Scopes.{mode_in}
+use Rattle.ep_eval.specs.Scopes.{env_in, mode_in}
+use Rattle.ep_tree.specs.Reach.{decisions_in}
+use Rattle.ep_tree.specs.declared.syntax.Expr.{Expr}
+use Rattle.ep_unroll.specs.Picks.{IsFreeIndex}
 use Rattle.ep_tree.specs.Values.{index_in}
 use Rattle.ep_unroll.proofs.PartSteps.{indices_all, indices_begin, indices_more, indices_none}
 use Rattle.ep_unroll.proofs.reads.fixed_indices.Goals as goal
+
+pub fixed_index-requires : goal.fixed_index-requires
+fixed_index-requires c =
+    subst {A = Option Expr} (IsFreeIndex (decisions_in (env_in c.args.scope))) (sym c.index-item.is)
+    (All-get_or {X = Option Expr} (IsFreeIndex (decisions_in (env_in c.args.scope))) c.args.indices.now c.loop-index.index-index c.index-item.result c.loop-index-test.true c.requires)
 
 pub loop-index-init : goal.loop-index-init
 loop-index-init c n r = indices_begin (mode_in c.args.scope) r.values c.args.indices.now c.new-numbers.result.items c.new-numbers.ensures.items
