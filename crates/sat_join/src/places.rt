@@ -37,18 +37,19 @@ fn place_of(givens: &ClauseList, literals: &[Lit], first: u64, hint: u64) -> Opt
     requires { first + hint < 2 ^ 64 }
     ensures { IsPlace givens.now literals.now first hint result }
 {
-    let steps = givens.len() as u64 + literals.len() as u64;
-    if hint >= steps {
-        return Some(first + (hint - steps));
+    let given = givens.len() as u64;
+    if hint < given {
+        if has_one_of(literals, givens.clause(hint as usize)) {
+            return None;
+        }
+        return Some(hint);
     }
-    let index = hint as usize;
-    if index >= givens.len() {
+    let beyond = hint - given;
+    let own = literals.len() as u64;
+    if beyond < own {
         return None;
     }
-    if has_one_of(literals, givens.clause(index)) {
-        return None;
-    }
-    Some(hint)
+    Some(first + (beyond - own))
 }
 
 /// The places in the joined log of what the hints of a cube's step name, where the first step of the cube has this place.
