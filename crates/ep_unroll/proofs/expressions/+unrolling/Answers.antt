@@ -236,8 +236,8 @@ terms_of_all-returns t c =
 pub with_terms-chain_term-requires : goal.with_terms-chain_term-requires
 with_terms-chain_term-requires t c = c.in_ok-parts-in-Add.ensures.known
 
-pub with_terms-returns-in_ok-parts-in-Add : goal.with_terms-returns-in_ok-parts-in-Add
-with_terms-returns-in_ok-parts-in-Add t c p =
+pub with_terms-returns : goal.with_terms-returns
+with_terms-returns t c p =
     let n = numbering_of (mode_in c.args.scope) c.args.table.now in
     let env = env_in c.args.scope in
     let xs = c.deref.result.now in
@@ -268,8 +268,8 @@ signed_terms-returns t c =
 pub with_domain-member_term-requires : goal.with_domain-member_term-requires
 with_domain-member_term-requires t c = c.in_ok-term-in-InDomain.ensures.known
 
-pub with_domain-returns-in_ok-numbers-in-InDomain : goal.with_domain-returns-in_ok-numbers-in-InDomain
-with_domain-returns-in_ok-numbers-in-InDomain t c p =
+pub with_domain-returns : goal.with_domain-returns
+with_domain-returns t c p =
     let n = numbering_of (mode_in c.args.scope) c.args.table.now in
     let env = env_in c.args.scope in
     let e = expr_tree c.deref.result.now in
@@ -447,8 +447,8 @@ read_unrolled-read_with-requires t c =
       slots = slots_known n env mid new c.deref-in-Read-3.result.now found c.in_ok-slots-in-Read.ensures;
     }
 
-pub read_unrolled-returns-in_ok-slots-in-Read : goal.read_unrolled-returns-in_ok-slots-in-Read
-read_unrolled-returns-in_ok-slots-in-Read t c =
+pub read_unrolled-returns : goal.read_unrolled-returns
+read_unrolled-returns t c =
     let n = numbering_of (mode_in c.args.scope) c.args.table.now in
     let env = env_in c.args.scope in
     let old = c.args.arena.now in
@@ -488,8 +488,8 @@ with_set-returns-then-is_fixed t c p =
     if_ok c.listed_member.result _ _ (λ x h. subst (λ y. IsTermOf n env c.args.arena.now c.listed_member.new.arena y x) (sym is) h)
     (c.listed_member.ensures n env c.args.arena.now p e f refl refl (c.in_ok-own-in-InSet.ensures n) c.in_ok-term-in-InSet.ensures)
 
-pub with_set-returns-in_ok-terms-in-InSet : goal.with_set-returns-in_ok-terms-in-InSet
-with_set-returns-in_ok-terms-in-InSet t c p =
+pub with_set-returns : goal.with_set-returns
+with_set-returns t c p =
     let n = numbering_of (mode_in c.args.scope) c.args.table.now in
     let env = env_in c.args.scope in
     let old = c.args.arena.now in
