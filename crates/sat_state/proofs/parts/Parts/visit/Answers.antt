@@ -34,7 +34,6 @@ returns-then-is_short_true-clause-goes c =
 pub read-requires-clause-next : goal.read-requires-clause-next
 read-requires-clause-next c = record { pair = c.args.pair; blocker = c.args.blocker; next = c.requires.next }
 
-
 -- it is the other one of two, and is forced
 
 pub force-requires-clause-there : goal.force-requires-clause-there
