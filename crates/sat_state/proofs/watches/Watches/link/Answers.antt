@@ -8,8 +8,8 @@ use Rattle.sat_state.proofs.Listing.{list_read}
 use Rattle.sat_state.proofs.Walking.{half_name, far_of_name, length_seen, lits_set, fars_set, code_known, room_left, linked_in, linked_walk, linked_stands, linked_waiting}
 use Rattle.sat_state.proofs.watches.Watches.link.Goals as goal
 
-pub overflow_cast-watch : goal.overflow_cast-watch
-overflow_cast-watch c = omega (arith, c.requires.there, length_seen c.self.inside c.args.self.now c.self.view_is, c.self.invariant.listed.few)
+pub overflow_cast-entry : goal.overflow_cast-entry
+overflow_cast-entry c = omega (arith, c.requires.there, length_seen c.self.inside c.args.self.now c.self.view_is, c.self.invariant.listed.few)
 
 pub name-requires : goal.name-requires
 name-requires c =
@@ -50,10 +50,10 @@ invariant_of-self c =
     let behind : ltb (length cell.watches) c.push_far.new.self.nears ≡ false = let le = c.push_far.ensures.behind in grind (arith, nat_tests) in
     record {
       listed = linked_in a now c.self.view_is c.self.invariant code c.args.lit c.code-code.ensures.value c.code-code.ensures.some c.requires.known
-          c.args.entry c.name.result (length cell.watches) true cell c.push_far.new.self x read c.push_far.ensures.rest c.push_far.ensures.there named refl c.requires.there c.requires.none
+          c.args.entry c.name.result (length cell.watches) true cell c.push_far.new.self x read c.push_far.ensures.rest (λ d. c.push_far.ensures.there d ∙ c.new-watch.ensures) named refl c.requires.there c.requires.none
           (ap (λ (b : Bool). cond b 0 1) behind);
       walk = linked_walk a now c.self.view_is c.self.invariant code c.args.lit c.code-code.ensures.value c.code-code.ensures.some c.requires.known
-          c.args.entry c.name.result (length cell.watches) true cell c.push_far.new.self x read c.push_far.ensures.rest c.push_far.ensures.there named c.requires.other;
+          c.args.entry c.name.result (length cell.watches) true cell c.push_far.new.self x read c.push_far.ensures.rest (λ d. c.push_far.ensures.there d ∙ c.new-watch.ensures) named c.requires.other;
     }
 
 pub invariant_of-self-else-far : goal.invariant_of-self-else-far
@@ -69,10 +69,10 @@ invariant_of-self-else-far c =
     let before : ltb cell.nears c.push_near.new.self.nears ≡ true = let more = c.push_near.ensures.rest.nears in grind (arith, nat_tests) in
     record {
       listed = linked_in a now c.self.view_is c.self.invariant code c.args.lit c.code-code.ensures.value c.code-code.ensures.some c.requires.known
-          c.args.entry c.name.result cell.nears false cell c.push_near.new.self x read c.push_near.ensures.rest c.push_near.ensures.there named refl c.requires.there c.requires.none
+          c.args.entry c.name.result cell.nears false cell c.push_near.new.self x read c.push_near.ensures.rest (λ d. c.push_near.ensures.there d ∙ c.new-watch.ensures) named refl c.requires.there c.requires.none
           (ap (λ (b : Bool). cond b 0 1) before);
       walk = linked_walk a now c.self.view_is c.self.invariant code c.args.lit c.code-code.ensures.value c.code-code.ensures.some c.requires.known
-          c.args.entry c.name.result cell.nears false cell c.push_near.new.self x read c.push_near.ensures.rest c.push_near.ensures.there named c.requires.other;
+          c.args.entry c.name.result cell.nears false cell c.push_near.new.self x read c.push_near.ensures.rest (λ d. c.push_near.ensures.there d ∙ c.new-watch.ensures) named c.requires.other;
     }
 
 pub returns-then-far-clause-lits : goal.returns-then-far-clause-lits
@@ -105,7 +105,7 @@ returns-then-far-clause-stands c =
     let read = list_read a.lists.items code cell known c.index_mut-then-far.ensures.value in
     let named : c.name.result ≡ 2 * code + cond true 1 0 = c.name.ensures ∙ ap (λ (b : Bool). 2 * code + cond b 1 0) c.if-far.true in
     linked_stands a now c.self.view_is c.self.invariant code c.args.lit c.code-code.ensures.value c.code-code.ensures.some c.requires.known
-    c.args.entry c.name.result (length cell.watches) true cell c.push_far.new.self (record { entry = c.args.entry; pair = c.args.pair; blocker = c.args.blocker }) read c.push_far.ensures.rest c.push_far.ensures.there named
+    c.args.entry c.name.result (length cell.watches) true cell c.push_far.new.self (record { entry = c.args.entry; pair = c.args.pair; blocker = c.args.blocker }) read c.push_far.ensures.rest (λ d. c.push_far.ensures.there d ∙ c.new-watch.ensures) named
 
 pub returns-else-far-clause-stands : goal.returns-else-far-clause-stands
 returns-else-far-clause-stands c =
@@ -117,7 +117,7 @@ returns-else-far-clause-stands c =
     let read = list_read a.lists.items code cell known c.index_mut-else-far.ensures.value in
     let named : c.name.result ≡ 2 * code + cond false 1 0 = c.name.ensures ∙ ap (λ (b : Bool). 2 * code + cond b 1 0) c.if-far.false in
     linked_stands a now c.self.view_is c.self.invariant code c.args.lit c.code-code.ensures.value c.code-code.ensures.some c.requires.known
-    c.args.entry c.name.result cell.nears false cell c.push_near.new.self (record { entry = c.args.entry; pair = c.args.pair; blocker = c.args.blocker }) read c.push_near.ensures.rest c.push_near.ensures.there named
+    c.args.entry c.name.result cell.nears false cell c.push_near.new.self (record { entry = c.args.entry; pair = c.args.pair; blocker = c.args.blocker }) read c.push_near.ensures.rest (λ d. c.push_near.ensures.there d ∙ c.new-watch.ensures) named
 
 pub returns-then-far-clause-waiting : goal.returns-then-far-clause-waiting
 returns-then-far-clause-waiting c =
@@ -129,7 +129,7 @@ returns-then-far-clause-waiting c =
     let read = list_read a.lists.items code cell known c.index_mut-then-far.ensures.value in
     let named : c.name.result ≡ 2 * code + cond true 1 0 = c.name.ensures ∙ ap (λ (b : Bool). 2 * code + cond b 1 0) c.if-far.true in
     linked_waiting a now c.self.view_is c.self.invariant code c.args.lit c.code-code.ensures.value c.code-code.ensures.some c.requires.known
-    c.args.entry c.name.result (length cell.watches) true cell c.push_far.new.self (record { entry = c.args.entry; pair = c.args.pair; blocker = c.args.blocker }) read c.push_far.ensures.rest c.push_far.ensures.there named c.requires.other
+    c.args.entry c.name.result (length cell.watches) true cell c.push_far.new.self (record { entry = c.args.entry; pair = c.args.pair; blocker = c.args.blocker }) read c.push_far.ensures.rest (λ d. c.push_far.ensures.there d ∙ c.new-watch.ensures) named c.requires.other
 
 pub returns-else-far-clause-waiting : goal.returns-else-far-clause-waiting
 returns-else-far-clause-waiting c =
@@ -141,4 +141,4 @@ returns-else-far-clause-waiting c =
     let read = list_read a.lists.items code cell known c.index_mut-else-far.ensures.value in
     let named : c.name.result ≡ 2 * code + cond false 1 0 = c.name.ensures ∙ ap (λ (b : Bool). 2 * code + cond b 1 0) c.if-far.false in
     linked_waiting a now c.self.view_is c.self.invariant code c.args.lit c.code-code.ensures.value c.code-code.ensures.some c.requires.known
-    c.args.entry c.name.result cell.nears false cell c.push_near.new.self (record { entry = c.args.entry; pair = c.args.pair; blocker = c.args.blocker }) read c.push_near.ensures.rest c.push_near.ensures.there named c.requires.other
+    c.args.entry c.name.result cell.nears false cell c.push_near.new.self (record { entry = c.args.entry; pair = c.args.pair; blocker = c.args.blocker }) read c.push_near.ensures.rest (λ d. c.push_near.ensures.there d ∙ c.new-watch.ensures) named c.requires.other
