@@ -10,10 +10,10 @@ loop-place-preserved c =
     let k = c.loop-place.place in
     let clause = c.clause.result.now in
     subst (λ (cs : List (List Literal)). IsLeastAbove c.args.above cs c.least_with-least.result)
-    (sym (take_more clauses k [] (omega (arith, c.loop-place-test.true, c.len-index-end.ensures)) ∙ ap (λ (x : List Literal). take k clauses ++ x ∷ []) (sym c.clause.ensures.value)))
+    (sym (take_more clauses k [] (omega (arith, c.loop-place-test.true, c.len-place-end.ensures)) ∙ ap (λ (x : List Literal). take k clauses ++ x ∷ []) (sym c.clause.ensures.value)))
     (c.least_with-least.ensures (take k clauses) c.loop-place.invariant)
 
 pub returns : goal.returns
 returns c =
     subst (λ (cs : List (List Literal)). IsLeastAbove c.args.above cs c.loop-place.least)
-    (take_all c.loop-place.place c.args.clauses.now (omega (arith, c.loop-place-test.false, c.len-index-end.ensures))) c.loop-place.invariant
+    (take_all c.loop-place.place c.args.clauses.now (omega (arith, c.loop-place-test.false, c.len-place-end.ensures))) c.loop-place.invariant

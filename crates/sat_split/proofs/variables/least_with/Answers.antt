@@ -10,7 +10,7 @@ loop-lit-init c = λ clauses is. least_begun clauses c.args.above c.args.so_far 
 
 pub loop-lit-preserved : goal.loop-lit-preserved
 loop-lit-preserved c =
-    let lits = c.lits-lits.result.now in
+    let lits = c.args.clause.now in
     let i = c.loop-lit.lit-index in
     let l = c.lit-item.result in
     λ clauses is.
@@ -24,5 +24,5 @@ loop-lit-preserved c =
 pub returns : goal.returns
 returns c = λ clauses is.
     subst (λ (ls : List Literal). IsLeastAbove c.args.above (clauses ++ ls ∷ []) c.loop-lit.least)
-    (take_all c.loop-lit.lit-index c.lits-lits.result.now (omega (arith, c.loop-lit-test.false)) ∙ c.lits-lits.ensures.value)
+    (take_all c.loop-lit.lit-index c.args.clause.now (omega (arith, c.loop-lit-test.false)))
     (c.loop-lit.invariant clauses is)
