@@ -1,5 +1,5 @@
 -- Each goal is a lemma of Settings, read at the stage to which the function came.
-use Rattle.std.proofs.Common.{◌≡◌, ℕ, ◌+◌, ◌^◌, ◌<◌, List, [], ◌∷◌, ◌++◌, length, refl, ap, ◌∙◌, sym, subst, arith, rules, Vec, Global}
+use Rattle.std.proofs.Common.{◌≡◌, ℕ, ◌+◌, ◌^◌, ◌<◌, List, [], ◌∷◌, ◌++◌, drop, length, refl, ap, ◌∙◌, sym, subst, arith, rules, Vec, Global}
 use Rattle.std.specs.Prelude.{All}
 use Rattle.std.proofs.lemmas.Bool.{eqb-true, eqb-false}
 use Rattle.std.proofs.lemmas.List.{nil_from_length}
@@ -14,10 +14,10 @@ use Rattle.sat_join.proofs.joining.join_cube.Goals.{After-steps-1}
 
 set : (c : After-steps-1) → IsSet c.clauses-givens.result.now c.args.vars.now c.args.ends.now.items c.in_ok-literals.literals.items (length c.events.result.now) c.events-2.result.now c.split_at.result.1.now c.args.refuted.now.events c.args.joined.now.events
 set c =
-    set_up c.clauses-givens.result.now c.args.formula.now.clauses c.args.vars.now c.args.ends.now.items c.in_ok-literals.literals.items c.len.result c.len-2.result
+    set_up c.clauses-givens.result.now c.args.formula.now.clauses c.args.vars.now c.args.ends.now.items c.in_ok-literals.literals.items c.len.result c.len-3.result
     c.events.result.now c.events-2.result.now c.split_at.result.1.now c.args.refuted.now.events c.args.joined.now.events
-    c.requires c.clauses-givens.ensures.value c.in_ok-literals.ensures (omega (arith, c.len.ensures, c.args.ends.now.ok.0)) c.events.ensures.value c.events-2.ensures.value c.split_at.ensures.back
-    (omega (arith, c.len-2.ensures, c.in_ok-literals.literals.ok.0))
+    c.requires c.clauses-givens.ensures.value c.in_ok-literals.ensures (omega (arith, c.len.ensures, c.args.ends.now.ok.0)) c.events.ensures.value c.events-2.ensures.value (c.split_at.ensures.back ∙ ap (λ (n : ℕ). drop (n + c.len-3.result) c.events-2.result.now) c.len-2.ensures)
+    (omega (arith, c.len-3.ensures, c.in_ok-literals.literals.ok.0))
 
 pub loop-event-init : goal.loop-event-init
 loop-event-init c = record {
