@@ -270,37 +270,35 @@ later_present trail n h more present = λ k d lt.
     = get_or-drop (h + 1) trail k d ∙ ap (λ (m : ℕ). get_or trail m d) (let e : (h + 1) + k ≡ h + (k + 1) = omega arith in e) ∙ sym (get_or-drop h trail (k + 1) d) in
     ap (λ (e : Entry). e.level) same ∙ present (k + 1) d there
 
--- the clauses of a literal's near or far list were looked at
-pub goes_walked : (old : Parts) → AreJoined old → IsWalking old → old.watches.waiting ≡ [] → (queue : Queue) → IsStep old.watches.walks_far old.queue queue → (new : Parts) → new ≡ record old { queue = queue } → GoesOn old new
-goes_walked old j w none queue step new is =
+-- the clauses of the near or the far list of the literal that the next entry of the trail makes false have true literals
+pub goes_passed : (old : Parts) → AreJoined old → old.queue.checked ≡ length old.clauses.lists → (far : Bool) → place_in_queue old.queue far < length old.assigned.trail → (walked : Literal)
+    → (get_or old.assigned.trail (place_in_queue old.queue far) some_entry).literal ≡ negation walked
+    → ((e : ℕ) → far_at old.watches.fars e ≡ far → e < length old.watches.lits → lit_at old.watches.lits e ≡ walked → HasTrueLiteral (literals old.assigned.trail) (clause_at old.clauses.lists (e / 2)))
+    → (queue : Queue) → IsStep far old.queue queue → (new : Parts) → new ≡ record old { queue = queue } → GoesOn old new
+goes_passed old j checked far more walked at each queue step new is =
     let trail = old.assigned.trail in
     let tier = λ (e : ℕ). far_at old.watches.fars e in
-    let each : (e : ℕ) → tier e ≡ old.watches.walks_far → e < length old.watches.lits → lit_at old.watches.lits e ≡ old.watches.walked → HasTrueLiteral (literals trail) (clause_at old.clauses.lists (e / 2))
-    = λ e far lt same. ⊎_elim
-    (λ (waits : Contains old.watches.waiting e). absurd (none_in_nil e (subst (λ (ws : List ℕ). Contains ws e) none waits)))
-    (λ (done : HasTrueLiteral (literals trail) (clause_at old.clauses.lists (e / 2))). done)
-    (w.satisfied e (record { there = lt; literal = same; tier = far })) in
-    let watched = watched_walked old.clauses.lists old.watches.lits trail old.queue.checked (heads_of old.queue old.watches.fars) j.watched (joined_consistent old j) (joined_low old j) w.checked
-    (place_in_queue old.queue old.watches.walks_far) w.more old.watches.walked w.walked (next_level_is old j old.watches.walks_far w.more) (heads_of queue old.watches.fars)
+    let watched = watched_walked old.clauses.lists old.watches.lits trail old.queue.checked (heads_of old.queue old.watches.fars) j.watched (joined_consistent old j) (joined_low old j) checked
+    (place_in_queue old.queue far) more walked at (next_level_is old j far more) (heads_of queue old.watches.fars)
     (λ e. ⊎_elim
     (λ (same : place_in_queue queue (tier e) ≡ place_in_queue old.queue (tier e)). inl same)
-    (λ (at : (place_in_queue queue (tier e) ≡ place_in_queue old.queue (tier e) + 1) × (tier e ≡ old.watches.walks_far)). inr (at.0, ap (place_in_queue old.queue) at.1, each e at.1))
-    (stepped old.watches.walks_far old.queue queue step (tier e))) in
+    (λ (now : (place_in_queue queue (tier e) ≡ place_in_queue old.queue (tier e) + 1) × (tier e ≡ far)). inr (now.0, ap (place_in_queue old.queue) now.1, each e now.1))
+    (stepped far old.queue queue step (tier e))) in
     subst (GoesOn old) (sym is) (record {
       joined = record {
         grounded = j.grounded;
         watched = subst (λ (n : ℕ). AreWatched old.clauses.lists old.watches.lits trail n (heads_of queue old.watches.fars)) (sym step.checked) watched;
         checked_in = omega (arith, step.checked, j.checked_in);
-        head_in = λ far. ⊎_elim
-            (λ (same : place_in_queue queue far ≡ place_in_queue old.queue far). omega (arith, same, j.head_in far))
-            (λ (at : (place_in_queue queue far ≡ place_in_queue old.queue far + 1) × (far ≡ old.watches.walks_far)). omega (arith, at.0, ap (place_in_queue old.queue) at.1, w.more))
-            (stepped old.watches.walks_far old.queue queue step far);
-        present = λ far. ⊎_elim
-            (λ (same : place_in_queue queue far ≡ place_in_queue old.queue far). subst (λ (n : ℕ). All (λ (e : Entry). e.level ≡ level_of trail) (drop n trail)) (sym same) (j.present far))
-            (λ (at : (place_in_queue queue far ≡ place_in_queue old.queue far + 1) × (far ≡ old.watches.walks_far)).
-            subst (λ (n : ℕ). All (λ (e : Entry). e.level ≡ level_of trail) (drop n trail)) (sym at.0)
-            (later_present trail (level_of trail) (place_in_queue old.queue far) (omega (arith, ap (place_in_queue old.queue) at.1, w.more)) (j.present far)))
-            (stepped old.watches.walks_far old.queue queue step far);
+        head_in = λ t. ⊎_elim
+            (λ (same : place_in_queue queue t ≡ place_in_queue old.queue t). omega (arith, same, j.head_in t))
+            (λ (now : (place_in_queue queue t ≡ place_in_queue old.queue t + 1) × (t ≡ far)). omega (arith, now.0, ap (place_in_queue old.queue) now.1, more))
+            (stepped far old.queue queue step t);
+        present = λ t. ⊎_elim
+            (λ (same : place_in_queue queue t ≡ place_in_queue old.queue t). subst (λ (n : ℕ). All (λ (e : Entry). e.level ≡ level_of trail) (drop n trail)) (sym same) (j.present t))
+            (λ (now : (place_in_queue queue t ≡ place_in_queue old.queue t + 1) × (t ≡ far)).
+            subst (λ (n : ℕ). All (λ (e : Entry). e.level ≡ level_of trail) (drop n trail)) (sym now.0)
+            (later_present trail (level_of trail) (place_in_queue old.queue t) (omega (arith, ap (place_in_queue old.queue) now.1, more)) (j.present t)))
+            (stepped far old.queue queue step t);
         fars = j.fars;
         lists = j.lists;
         blockers = j.blockers;
@@ -313,6 +311,16 @@ goes_walked old j w none queue step new is =
       front = take_all (length trail) trail (omega arith);
       level = refl;
     })
+
+-- the clauses of a literal's near or far list were looked at
+pub goes_walked : (old : Parts) → AreJoined old → IsWalking old → old.watches.waiting ≡ [] → (queue : Queue) → IsStep old.watches.walks_far old.queue queue → (new : Parts) → new ≡ record old { queue = queue } → GoesOn old new
+goes_walked old j w none queue step new is =
+    goes_passed old j w.checked old.watches.walks_far w.more old.watches.walked w.walked
+    (λ e far lt same. ⊎_elim
+    (λ (waits : Contains old.watches.waiting e). absurd (none_in_nil e (subst (λ (ws : List ℕ). Contains ws e) none waits)))
+    (λ (done : HasTrueLiteral (literals old.assigned.trail) (clause_at old.clauses.lists (e / 2))). done)
+    (w.satisfied e (record { there = lt; literal = same; tier = far })))
+    queue step new is
 
 pub both_tiers : (queue : Queue) (n : ℕ) → queue.head ≡ n → queue.far ≡ n → (far : Bool) → place_in_queue queue far ≡ n
 both_tiers queue n near far true = far
@@ -535,6 +543,17 @@ code_most_by v false = omega arith
 
 pub code_most : (l : Literal) → code_of l ≤ 2 * l.var + 1
 code_most l = code_most_by l.var l.positive
+
+-- the literal that is walked has a list
+pub walked_listed : (p : Parts) → AreJoined p → IsWalking p → All (λ l. l.var ≤ p.assigned.vars) (literals p.assigned.trail) → code_of p.watches.walked < p.watches.lists
+walked_listed p j w known =
+    let trail = p.assigned.trail in
+    let place = place_in_queue p.queue p.watches.walks_far in
+    let there : Contains (literals trail) (negation p.watches.walked)
+    = subst (λ (l : Literal). Contains (literals trail) l) w.walked
+    (Rattle.sat_state.proofs.Guarded.literal_of_entry trail (get_or trail place some_entry) (Rattle.sat_state.proofs.Guarded.entry_at_place trail place some_entry w.more)) in
+    let low : p.watches.walked.var ≤ p.assigned.vars = All-contains (λ (l : Literal). l.var ≤ p.assigned.vars) (literals trail) (negation p.watches.walked) known there in
+    omega (arith, code_most p.watches.walked, low, j.lists)
 
 -- the lists of two numbers of variables are those of the greater
 pub most_within : (a b n : ℕ) → 2 * a + 2 ≤ n → 2 * b + 2 ≤ n → 2 * Rattle.std.proofs.Common.max a b + 2 ≤ n

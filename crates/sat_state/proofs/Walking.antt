@@ -286,6 +286,16 @@ module _ (a : Inside) (now : Watching) (is : seen_watches a ≡ now) (inv : AreW
       lt_of : (x y : ℕ) → Rattle.std.proofs.Common.ltb x y ≡ true → x < y
       lt_of x y e = grind (arith, nat_tests)
 
+  -- where there are as many near ones as there are in all, none is far
+  pub none_far : nears ≡ length (listed_at a.lists.items code).watches → (entry : ℕ) → entry < length now.lits → lit_at now.lits entry ≡ l → far_at now.fars entry ≡ false
+  none_far all entry lt same =
+      let list = listed_at a.lists.items code in
+      let p = placed entry lt same in
+      by_side entry p ∙ ap Rattle.std.proofs.Common.not (lt_is p.place list.nears (omega (arith, p.there, all, first)))
+    where
+      lt_is : (x y : ℕ) → x < y → Rattle.std.proofs.Common.ltb x y ≡ true
+      lt_is x y lt = grind (arith, nat_tests)
+
 -- ---- the next one goes out
 
 -- what was read of the list that is walked is what stands there

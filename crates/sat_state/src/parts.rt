@@ -157,6 +157,7 @@ impl Parts {
         ensures walking { IsTrue result → IsWalking self.new }
         ensures shorter { IsTrue result → length self.new.watches.waiting + 1 ≡ length self.old.watches.waiting }
         ensures queue { self.new.queue ≡ self.old.queue }
+        ensures literal { self.new.watches.walked ≡ self.old.watches.walked }
         ensures tier { self.new.watches.walks_far ≡ self.old.watches.walks_far }
         ensures falsified { result ≡ false → NamesFalsified self.new.clauses.lists self.new.assigned.trail (entry / 2) }
     {
@@ -191,6 +192,7 @@ impl Parts {
         ensures walking { IsTrue result → IsWalking self.new }
         ensures shorter { IsTrue result → length self.new.watches.waiting + 1 ≡ length self.old.watches.waiting }
         ensures queue { self.new.queue ≡ self.old.queue }
+        ensures literal { self.new.watches.walked ≡ self.old.watches.walked }
         ensures tier { self.new.watches.walks_far ≡ self.old.watches.walks_far }
         ensures falsified { result ≡ false → NamesFalsified self.new.clauses.lists self.new.assigned.trail (entry / 2) }
     {
@@ -218,7 +220,7 @@ impl Parts {
         ensures goes { GoesOn self.old self.new }
         ensures checked { self.new.queue.checked ≡ self.old.queue.checked }
         ensures falsified { IfSome result (NamesFalsified self.new.clauses.lists self.new.assigned.trail) }
-        ensures done { IsNone result → self.new.queue.head + self.new.queue.far ≡ self.old.queue.head + self.old.queue.far + 1 }
+        ensures done { IsNone result → self.old.queue.head + self.old.queue.far + 1 ≤ self.new.queue.head + self.new.queue.far }
     {
         let lit = self.assigned.trail()[self.queue.place(far)].lit().negated();
         self.watches.start(lit, far);
@@ -230,9 +232,29 @@ impl Parts {
         if far {
             self.queue.far += 1;
         } else {
-            self.queue.head += 1;
+            self.pass_near(lit);
         }
         None
+    }
+
+    // Goes on behind the near list of a literal, which was walked, and behind its far list, where that is the next one and has nothing.
+    fn pass_near(&mut self, lit: Lit)
+        requires joined { AreJoined self.old }
+        requires walking { IsWalking self.old }
+        requires walked { self.old.watches.walked ≡ lit }
+        requires near { self.old.watches.walks_far ≡ false }
+        requires none { self.old.watches.waiting ≡ [] }
+        ensures goes { GoesOn self.old self.new }
+        ensures checked { self.new.queue.checked ≡ self.old.queue.checked }
+        ensures done { self.old.queue.head + self.old.queue.far + 1 ≤ self.new.queue.head + self.new.queue.far }
+    {
+        // Shows that the literal is known.
+        let _trail = self.assigned.trail();
+        let place = self.queue.head;
+        self.queue.head += 1;
+        if self.queue.far == place && self.watches.has_no_far(lit) {
+            self.queue.far += 1;
+        }
     }
 
     // Looks at the literals of the trail that weren't looked at yet, up to a falsified clause, whose number it answers: at the near

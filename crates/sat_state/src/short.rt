@@ -82,14 +82,8 @@ impl ShortLit {
     pub fn negated(self) -> ShortLit
         ensures { result ≡ negation self }
     {
-        if self.code % 2 == 0 {
-            ShortLit {
-                code: self.code + 1,
-            }
-        } else {
-            ShortLit {
-                code: self.code - 1,
-            }
+        ShortLit {
+            code: self.code ^ 1,
         }
     }
 }

@@ -1,7 +1,7 @@
 //! The literals that clauses watch: for each literal a list of what watches it, the near ones, which propagation walks first, before the
 //! far ones, which it walks where the near ones bring nothing more.
 
-ghost use Rattle.std.specs.Prelude.{◌≡◌, ◌≢◌, ℕ, ◌+◌, ◌*◌, ◌^◌, ◌<◌, ◌≤◌, ◌⊎◌, [], ◌∷◌, ◌++◌, length, drop, max, false, slice_index, Contains, OnOk, IfSome, IsNone};
+ghost use Rattle.std.specs.Prelude.{◌≡◌, ◌≢◌, ℕ, ◌+◌, ◌*◌, ◌^◌, ◌<◌, ◌≤◌, ◌⊎◌, [], ◌∷◌, ◌++◌, length, drop, max, false, slice_index, Contains, OnOk, IfSome, IsNone, IsTrue};
 ghost use Rattle.std.proofs.Common.{set};
 ghost use Rattle.cnf_core.specs.Literal.{code_of};
 ghost use Rattle.sat_state.specs.Watched.{Watched};
@@ -210,6 +210,15 @@ impl Watches {
         } else {
             self.lists[code].push_near(watch);
         }
+    }
+
+    /// Whether nothing stands in the far part of the list of a literal.
+    pub fn has_no_far(&self, lit: Lit) -> bool
+        requires known { code_of lit < self.now.lists }
+        ensures { IsTrue result → (entry : ℕ) → entry < length self.now.lits → lit_at self.now.lits entry ≡ lit → far_at self.now.fars entry ≡ false }
+    {
+        let code = code(lit);
+        self.lists[code].nears() == self.lists[code].len()
     }
 
     /// Begins to walk a part of the list of a literal.

@@ -32,6 +32,7 @@ walk-init c =
             (ap (λ (fs : List Bool). far_at fs e) (sym s.fars) ∙ in_walk.tier ∙ s.walks_far));
       };
       queue = refl;
+      literal = s.walked;
       far = s.walks_far;
     }
 
@@ -44,11 +45,14 @@ returns-then-far-clause-goes c =
     let step : IsStep old.watches.walks_far old.queue queue = subst (λ (t : Bool). IsStep t old.queue queue) (sym far) (far_step old.queue) in
     goes_again c.args.self.now old _ goes (goes_walked old goes.joined c.walk.invariant.walking (c.in_default.ensures.none refl) queue step _ refl)
 
+pub pass_near-requires-clause-walked : goal.pass_near-requires-clause-walked
+pass_near-requires-clause-walked c = c.walk.invariant.literal
+
+pub pass_near-requires-clause-near : goal.pass_near-requires-clause-near
+pass_near-requires-clause-near c = c.walk.invariant.far ∙ c.if-far.false
+
+pub pass_near-requires-clause-none : goal.pass_near-requires-clause-none
+pass_near-requires-clause-none c = c.in_default.ensures.none refl
+
 pub returns-else-far-clause-goes : goal.returns-else-far-clause-goes
-returns-else-far-clause-goes c =
-    let old = c.walk.self in
-    let goes = c.walk.invariant.goes in
-    let far : old.watches.walks_far ≡ false = c.walk.invariant.far ∙ c.if-far.false in
-    let queue : Queue = record { checked = old.queue.checked; head = old.queue.head + 1; far = old.queue.far } in
-    let step : IsStep old.watches.walks_far old.queue queue = subst (λ (t : Bool). IsStep t old.queue queue) (sym far) (near_step old.queue) in
-    goes_again c.args.self.now old _ goes (goes_walked old goes.joined c.walk.invariant.walking (c.in_default.ensures.none refl) queue step _ refl)
+returns-else-far-clause-goes c = goes_again c.args.self.now c.walk.self _ c.walk.invariant.goes c.pass_near.ensures.goes

@@ -7,6 +7,7 @@ invariant-walk l = record {
   goes : GoesOn l.fn.self l.self;
   walking : IsWalking l.self;
   queue : l.self.queue ≡ l.fn.self.queue;
+  literal : l.self.watches.walked ≡ l.lit;
   far : l.self.watches.walks_far ≡ l.far;
 }
 
