@@ -1,11 +1,11 @@
 use Rattle.std.proofs.Common.{◌≡◌, ◌≢◌, ◌+◌, ◌/◌, ◌<◌, ◌≤◌, ◌⊎◌, ◌∷◌, [], ◌++◌, ℕ, Bool, false, List, Some, length, get_or, set, Contains, refl, sym, ap, ◌∙◌, subst, inl, inr, ⊎_elim, arith}
 use Rattle.std.proofs.lemmas.List.{get_or_append_left, length_push}
-use Rattle.cnf_core.specs.Literal.{Literal, is_among, code_of}
+use Rattle.cnf_core.specs.Literal.{Literal, is_among}
 use Rattle.cnf_core.specs.Steps.{HasTrueLiteral}
-use Rattle.sat_state.specs.Trail.{Entry, literals, next_level, Gives, IsFalsified}
+use Rattle.sat_state.specs.Trail.{Entry, literals, next_level, Gives}
 use Rattle.sat_state.specs.Stored.{Stored, clause_at}
 use Rattle.sat_state.specs.Watched.{Watched}
-use Rattle.sat_state.specs.Watching.{Watching, no_lit, lit_at, IsInSomeList, links}
+use Rattle.sat_state.specs.Watching.{Watching}
 use Rattle.sat_state.specs.Guards.{is_false}
 use Rattle.sat_state.specs.Joined.{some_entry, place_in_queue}
 use Rattle.sat_state.proofs.Literals.{Contains-from_among}

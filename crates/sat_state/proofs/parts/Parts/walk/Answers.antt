@@ -1,4 +1,4 @@
-use Rattle.std.proofs.Common.{◌≡◌, ◌∙◌, ◌+◌, ◌<◌, ◌≤◌, ℕ, Bool, true, false, List, length, get_or, refl, sym, ap, subst, inl}
+use Rattle.std.proofs.Common.{◌≡◌, ◌∙◌, ◌+◌, ◌<◌, ◌≤◌, ℕ, Bool, true, List, length, get_or, refl, sym, ap, subst, inl}
 use Rattle.std.proofs.lemmas.List.{get_or-map}
 use Rattle.cnf_core.specs.Literal.{Literal, negation}
 use Rattle.sat_state.specs.Trail.{Entry, literals}
@@ -6,7 +6,7 @@ use Rattle.sat_state.specs.Watching.{lit_at, far_at}
 use Rattle.sat_state.specs.Joined.{some_entry, place_in_queue}
 use Rattle.sat_state.specs.declared.parts.Queue.{Queue}
 use Rattle.sat_state.proofs.Literals.{negation-negation}
-use Rattle.sat_state.proofs.Going.{goes_again, goes_same, no_fewer, stands_still, room_still, goes_walked, IsStep, near_step, far_step}
+use Rattle.sat_state.proofs.Going.{goes_again, goes_same, no_fewer, stands_still, room_still, goes_walked, IsStep, far_step}
 use Rattle.sat_state.proofs.parts.Parts.walk.Goals as goal
 
 pub walk-init : goal.walk-init
