@@ -158,12 +158,12 @@ adds_same L f g when atoms truth r v w ready is same adds =
 
 -- ---- all cases of a variable
 
-where_is : (values : List ℤ) (when : List Atom) (x : ℕ) (n : ℤ) (truth : Option ℕ) (h : Bool) → int_eq (number_at values x) n ≡ true → says values (or_is_not when x n) truth h ≡ says values when truth h
+pub where_is : (values : List ℤ) (when : List Atom) (x : ℕ) (n : ℤ) (truth : Option ℕ) (h : Bool) → int_eq (number_at values x) n ≡ true → says values (or_is_not when x n) truth h ≡ says values when truth h
 unfolding says atom_holds test_holds
 where_is values when x n truth h e =
     ap (λ b. b || is_as_said values truth h) (one_pushed values when (is_not_atom x n) ∙ ap (λ b. clause_holds values when || not b) e ∙ or-false (clause_holds values when))
 
-where_is_not : (values : List ℤ) (when : List Atom) (x : ℕ) (n : ℤ) (truth : Option ℕ) (h : Bool) → int_eq (number_at values x) n ≡ false → says values (or_is_not when x n) truth h ≡ true
+pub where_is_not : (values : List ℤ) (when : List Atom) (x : ℕ) (n : ℤ) (truth : Option ℕ) (h : Bool) → int_eq (number_at values x) n ≡ false → says values (or_is_not when x n) truth h ≡ true
 unfolding says atom_holds test_holds
 where_is_not values when x n truth h e =
     ap (λ b. b || is_as_said values truth h) (one_pushed values when (is_not_atom x n) ∙ ap (λ b. clause_holds values when || not b) e ∙ or_true (clause_holds values when))

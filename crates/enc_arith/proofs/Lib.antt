@@ -1,6 +1,7 @@
 mod Found
 mod Cases
 mod Entries
+mod Reading
 mod Orders
 mod Levels
 mod Constraining

@@ -1,7 +1,9 @@
 -- Elements: which part is found where keys are read number by number.
-use Rattle.std.specs.Prelude.{ℕ, ℤ, pos, List, [], ◌∷◌, ◌++◌, Option, Some, None, if◌then◌else◌}
+use Rattle.std.specs.Prelude.{ℕ, ℤ, pos, ◌≤ℤ◌, List, [], ◌∷◌, ◌++◌, MatchOption, Option, Some, None, if◌then◌else◌}
 use Rattle.std.specs.Ordering.{int_eq}
 use Rattle.ep_base.specs.Numbers.{same_numbers}
+use Rattle.enc_atoms.specs.declared.atoms.Atom.{Atom}
+use Rattle.enc_atoms.specs.declared.atoms.Test.{Test}
 use Rattle.ep_flat.specs.Cons.{number_at, numbers_of_vars}
 
 -- keys with the variables of their parts, as far as there are both
@@ -34,3 +36,21 @@ number_of_first values None None = pos 0
 -- the number of the part whose key the indices are, or else of the other part, or 0
 unfoldable pub element_value : List ℤ → List (List ℤ × ℕ) → Option ℕ → List ℕ → ℤ
 element_value values entries other indices = number_of_first values (part_of entries (numbers_of_vars values indices)) other
+
+-- a number is at most the other, if there is one
+abbrev pub IsUpTo : Option ℤ → ℤ → Type 0
+IsUpTo most n = MatchOption most ⊥ (λ m. n ≤ℤ m)
+
+-- a number is in a run: not up to the one number, but up to the other
+pub record IsInRun (above last : Option ℤ) (n : ℤ) : Type 0 where
+  pub beyond : IsUpTo above n → ⊥
+  pub up_to : IsUpTo last n
+
+-- some atoms, and that a variable is at most the number, if there is one
+unfoldable pub or_up_to : List Atom → ℕ → Option ℤ → List Atom
+or_up_to when x None = when
+or_up_to when x (Some n) = when ++ record { var = x; test = Test.AtMost; value = n } ∷ []
+
+-- some atoms, and that a variable isn't in a run
+unfoldable pub or_outside : List Atom → ℕ → Option ℤ → ℤ → List Atom
+or_outside when x above last = or_up_to when x above ++ record { var = x; test = Test.Above; value = last } ∷ []

@@ -1,11 +1,11 @@
 //! Parts of a list by their keys.
 
-ghost use Rattle.std.specs.Prelude.{◌≡◌, ◌<◌, ◌++◌, ◌∷◌, [], length, map, IsTrue, IfOk, MatchOption, None, OnOk, option_map, option_to_list};
+ghost use Rattle.std.specs.Prelude.{◌≡◌, ◌<◌, [], length, map, IsTrue, IfOk, MatchOption, None, OnOk, option_map, option_to_list};
 ghost use Rattle.std.specs.List.{All};
 ghost use Rattle.std.specs.Ordering.{int_eq};
 ghost use Rattle.ep_flat.specs.Cons.{number_at};
 ghost use Rattle.enc_atoms.specs.Atoms.{Adds};
-ghost use Rattle.enc_arith.specs.Elements.{element_value, number_of_first, part_of, rest_after, rests_after, with_parts as with_parts_of};
+ghost use Rattle.enc_arith.specs.Elements.{IsInRun, element_value, number_of_first, or_outside, part_of, rest_after, rests_after, with_parts as with_parts_of};
 ghost use Rattle.enc_arith.specs.Entries.{HaveParts, plain_entry};
 ghost use Rattle.enc_arith.specs.Saying.{IsReady, IsTarget, NamesIn, or_is_not, says};
 
@@ -16,7 +16,7 @@ use cnf_core::Formula;
 use enc_atoms::Atom;
 use enc_var::Layout;
 use ep_base::{Key, Memory};
-use ep_numbers::listed;
+use ep_numbers::{listed, runs_ascend};
 use std::alloc::{AllocError, Global};
 
 /// What is left of a key, and the variable of its part.
@@ -144,8 +144,57 @@ fn add_part(
     Ok(())
 }
 
+/// Some atoms, and that an index isn't in a run: above the one number, if there is one, and at most the other.
+fn or_outside(
+    alloc: Global,
+    when: &[Atom],
+    index: u64,
+    above: Option<i64>,
+    last: i64,
+) -> Result<Vec<Atom>, AllocError>
+    ensures { IfOk result (λ atoms. atoms.items ≡ or_outside when.now index above last) }
+{
+    let mut atoms = Vec::from_slice(alloc, when)?;
+    if let Some(above) = above {
+        atoms.push(Atom::at_most(index, above))?;
+    }
+    atoms.push(Atom::above(index, last))?;
+    Ok(atoms)
+}
+
+/// Adds clauses which say that where the index is in a run, above the one number and at most the other, the result is the
+/// number of the variable, or 0 where there is none. Where there is no last number there is no run.
+fn add_run(
+    alloc: Global,
+    layout: &Layout,
+    f: &mut Formula,
+    when: &[Atom],
+    target: Target,
+    other: Option<u64>,
+    index: u64,
+    above: Option<i64>,
+    last: Option<i64>,
+) -> Result<(), Memory>
+    requires ready { IsReady layout.now f.old }
+    requires names { NamesIn layout.now when.now }
+    requires there { IsTarget layout.now target.truth target.result }
+    requires other { MatchOption other (Unit {0}) (λ x. x < length layout.now) }
+    requires index { index < length layout.now }
+    ensures { OnOk result (Adds layout.now f.old layout.now f.new
+        (λ values. IsInRun above last (number_at values index) → IsTrue (says values when.now target.truth
+        (int_eq (number_at values target.result) (number_of_first values None other))))) }
+{
+    let Some(last) = last else {
+        return Ok(());
+    };
+    let atoms = or_outside(alloc, when, index, above, last)?;
+    add_other(alloc, layout, f, atoms.as_slice(), target, other)?;
+    Ok(())
+}
+
 /// Adds clauses which say that the result is the part whose key the indices are, or else the other part, or 0. Keys are
-/// read number by number, so that where no key is left one clause stands for all further indices.
+/// read number by number, so that where no key is left one clause stands for all further indices, and for each run of
+/// numbers with which no key begins there is one as well.
 pub(crate) fn add_element(
     alloc: Global,
     layout: &Layout,
@@ -176,9 +225,18 @@ pub(crate) fn add_element(
         add_other(alloc, layout, f, when, target, other)?;
         return Ok(());
     }
-    let numbers = listed(alloc, layout.domain(*index))?;
+    let domain = layout.domain(*index);
+    runs_ascend(domain);
+    let numbers = listed(alloc, domain)?;
+    let mut above = None;
+    let mut last = None;
     for number in numbers.as_slice() {
         let left = rests(alloc, entries, *number)?;
+        if left.is_empty() {
+            last = Some(*number);
+            continue;
+        }
+        add_run(alloc, layout, f, when, target, other, *index, above, last)?;
         let mut atoms = Vec::from_slice(alloc, when)?;
         atoms.push(Atom::is_not(*index, *number))?;
         add_element(
@@ -191,6 +249,9 @@ pub(crate) fn add_element(
             other,
             later,
         )?;
+        above = Some(*number);
+        last = None;
     }
+    add_run(alloc, layout, f, when, target, other, *index, above, last)?;
     Ok(())
 }
