@@ -296,3 +296,57 @@ pub says_found : (term : Term) (most m : ℤ) (r : Option Atom) (atom : Atom) �
 says_found term most m r atom e h same =
     subst (λ (n : ℤ). SaysOfTerm term atom (λ worth. worth ≤ℤ n)) same
     (subst (λ (o : Option Atom). MatchOption o (All (λ (step : Step). m <ℤ step.worth) term.steps.items) (λ atom. SaysOfTerm term atom (λ worth. worth ≤ℤ m))) e h)
+
+-- where worths rise: the last step that is worth at most so much is worth less, or there is none
+pub none_rising : (xs : List Step) (count n : ℕ) (worth : ℤ) (first : Step) → AllPairs (AreInOrder true) xs → count ≤ length xs
+    → AllWithin (λ step. step.worth ≤ℤ worth) xs 0 count → AllWithin (λ step. worth <ℤ step.worth) xs count (length xs) → (count ≡ 0) ⊎ ((n + 1 ≡ count) × ((slice_index_or xs n first).worth <ℤ worth))
+    → All (λ step. step.worth ≢ worth) xs
+none_rising xs count n worth first pairs within before behind last k d low e =
+    by_places k count (λ lt. early lt) (λ is. late (omega (arith, is))) (λ gt. late (omega (arith, gt)))
+  where
+    late : count ≤ k → ⊥
+    late le = let more = behind k d le low in omega (arith, ints, more, e)
+
+    early : k < count → ⊥
+    early lt = elim last as (λ _. ⊥) [
+      | inl none ↦ omega (arith, lt, none)
+      | inr p ↦ by_places k n
+          (λ less. let order = (pairs k n d less (omega (arith, within, p.0))).1 in let is = ap (λ (x : Step). x.worth) (read_any xs n first d (omega (arith, within, p.0))) in let small = p.1 in omega (arith, ints, order, is, small, e))
+          (λ same. let is = ap (λ (x : Step). x.worth) (read_any xs n first d (omega (arith, within, p.0))) in
+          let there = ap (λ j. (slice_index_or xs j d).worth) same in let small = p.1 in omega (arith, ints, there, is, small, e))
+          (λ more. let last_is = p.0 in omega (arith, lt, more, last_is))
+    ]
+
+-- where worths fall: the first step that is worth at most so much is worth less, or there is none
+pub none_falling : (xs : List Step) (count : ℕ) (worth : ℤ) (first : Step) → AllPairs (AreInOrder false) xs
+    → AllWithin (λ step. worth <ℤ step.worth) xs 0 count → (length xs ≤ count) ⊎ ((count < length xs) × ((slice_index_or xs count first).worth <ℤ worth))
+    → All (λ step. step.worth ≢ worth) xs
+none_falling xs count worth first pairs before next k d low e =
+    by_places k count (λ lt. let more = before k d (omega arith) lt in omega (arith, ints, more, e)) (λ is. late (inl is)) (λ gt. late (inr gt))
+  where
+    late : (k ≡ count) ⊎ (count < k) → ⊥
+    late far = elim next as (λ _. ⊥) [
+      | inl none ↦ elim far as (λ _. ⊥) [ inl is ↦ omega (arith, low, none, is) | inr gt ↦ omega (arith, low, none, gt) ]
+      | inr p ↦
+          let is = ap (λ (x : Step). x.worth) (read_any xs count first d p.0) in
+          let small = p.1 in
+          elim far as (λ _. ⊥) [
+            | inl same ↦ let there = ap (λ j. (slice_index_or xs j d).worth) same in omega (arith, ints, there, is, small, e)
+            | inr gt ↦ let order = (pairs count k d gt low).1 in omega (arith, ints, order, is, small, e)
+          ]
+    ]
+
+-- a step that is there
+pub found_there : (xs : List Step) (k : ℕ) (first step : Step) → k < length xs → slice_index_or xs k first ≡ step → Contains xs step
+found_there xs k first step low is = (k, low, read_any xs k step first low ∙ is)
+
+-- what a search for a step found, with its list and its number in other words
+pub found_worth : (xs ys : List Step) (m worth : ℤ) (r : Option Step) → xs ≡ ys → m ≡ worth → MatchOption r (All (λ (step : Step). step.worth ≢ m) xs) (λ step. Contains xs step × (step.worth ≡ m))
+    → MatchOption r (All (λ (step : Step). step.worth ≢ worth) ys) (λ step. Contains ys step × (step.worth ≡ worth))
+found_worth xs ys m worth r e same h =
+    subst (λ (zs : List Step). MatchOption r (All (λ (step : Step). step.worth ≢ worth) zs) (λ step. Contains zs step × (step.worth ≡ worth))) e
+    (subst (λ (n : ℤ). MatchOption r (All (λ (step : Step). step.worth ≢ n) xs) (λ step. Contains xs step × (step.worth ≡ n))) same h)
+
+-- no step is worth so much
+pub none_there : (xs : List Step) (m : ℤ) (r : Option Step) → r ≡ None → MatchOption r (All (λ (step : Step). step.worth ≢ m) xs) (λ step. Contains xs step × (step.worth ≡ m)) → All (λ (step : Step). step.worth ≢ m) xs
+none_there xs m r e h = subst (λ (o : Option Step). MatchOption o (All (λ (step : Step). step.worth ≢ m) xs) (λ step. Contains xs step × (step.worth ≡ m))) e h

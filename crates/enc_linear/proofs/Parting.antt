@@ -75,59 +75,23 @@ other_said term step atom v at ordered there made of_var is =
           (λ h. r.0 (λ e. t.0 h (e ∙ sym is)), λ w. t.1 (λ e. r.1 w (e ∙ is))));
     })
 
--- what a turn over a step of a single term says
-abbrev pub Apart : List Atom → Term → ℤ → List ℤ → Step → Type 0
-Apart guards term number values step = IsTrue (clause_holds values guards) ⊎ ((step.worth ≢ number) ⊎ (worth_of values term ≢ step.worth))
-
--- a turn over a step that is worth something else
-pub apart_passed : (L : List VariableLiterals) (f f1 : Cnf) (guards : List Atom) (term : Term) (number : ℤ) (step d : Step) (i : ℕ) → IsLayoutOf L f → i < length term.steps.items → step ≡ get_or term.steps.items i d
-    → Adds L f L f1 (λ values. All (Apart guards term number values) (take i term.steps.items)) → step.worth ≢ number
-    → Adds L f L f1 (λ values. All (Apart guards term number values) (take (i + 1) term.steps.items))
-apart_passed L f f1 guards term number step d i is_layout low at before other =
-    one_more L f f1 f1 (Apart guards term number) term.steps.items i d is_layout low before
-    (nothing_new L f1 (λ values. Apart guards term number values (get_or term.steps.items i d)) before.goes_on.is_layout before.goes_on.from_new
-    (λ values among. subst (Apart guards term number values) at (inr (inl other))))
-
--- a turn over a step that is worth the number
-pub apart_turn : (L : List VariableLiterals) (f f1 f2 : Cnf) (guards : List Atom) (atom : Atom) (term : Term) (number : ℤ) (step d : Step) (i : ℕ) → IsLayoutOf L f → IsTermOf L term → i < length term.steps.items
-    → step ≡ get_or term.steps.items i d → SaysOfTerm term atom (λ worth. worth ≢ step.worth)
-    → Adds L f L f1 (λ values. All (Apart guards term number values) (take i term.steps.items)) → Adds L f1 L f2 (Unless guards (λ values. IsTrue (atom_holds values atom))) → step.worth ≡ number
-    → Adds L f L f2 (λ values. All (Apart guards term number values) (take (i + 1) term.steps.items))
-apart_turn L f f1 f2 guards atom term number step d i is_layout of_layout low at says before added is =
-    one_more L f f1 f2 (Apart guards term number) term.steps.items i d is_layout low before
-    (adds_like L f1 L f2 (Unless guards (λ values. IsTrue (atom_holds values atom))) (λ values. Apart guards term number values (get_or term.steps.items i d)) before.goes_on.is_layout added
-    (λ values among. subst (λ (s : Step). Unless guards (λ values. IsTrue (atom_holds values atom)) values ↔ Apart guards term number values s) at (same values among)))
-  where
-    same : (values : List ℤ) → AreOfDomains L values → Unless guards (λ values. IsTrue (atom_holds values atom)) values ↔ Apart guards term number values step
-    same values among =
-        let said = so_said L term atom (λ worth. worth ≢ step.worth) values of_layout says among in (
-          λ h. elim h as (λ _. Apart guards term number values step) [ inl g ↦ inl g | inr a ↦ inr (inr (said.0 a)) ],
-          λ h. elim h as (λ _. Unless guards (λ values. IsTrue (atom_holds values atom)) values) [
-            | inl g ↦ inl g
-            | inr r ↦ elim r as (λ _. Unless guards (λ values. IsTrue (atom_holds values atom)) values) [ inl other ↦ absurd (other is) | inr w ↦ inr (said.1 w) ]
-          ],
-        )
-
--- all turns
-pub apart_all : (L : List VariableLiterals) (guards : List Atom) (term : Term) (m number : ℤ) (values : List ℤ) → IsTermOf L term → AreOfDomains L values → m ≡ number
-    → All (Apart guards term m values) term.steps.items ↔ Unless guards (λ values. worth_of values term ≢ number) values
+-- a term that is never worth the number
+pub never_there : (L : List VariableLiterals) (f : Cnf) (guards : List Atom) (term : Term) (m number : ℤ) → IsLayoutOf L f → IsTrue f.from_new → IsTermOf L term → All (λ (step : Step). step.worth ≢ m) term.steps.items → m ≡ number
+    → Adds L f L f (Unless guards (λ values. worth_of values term ≢ number))
 unfolding worth_of
-apart_all L guards term m number values of_layout among is =
-    let s = stands_of L term values of_layout among in (
-      λ h. elim (All-contains (Apart guards term m values) term.steps.items s.step h s.there) as (λ _. Unless guards (λ values. worth_of values term ≢ number) values) [
-        | inl g ↦ inl g
-        | inr r ↦ elim r as (λ _. Unless guards (λ values. worth_of values term ≢ number) values) [ inl other ↦ inr (λ e. other (sym s.worth ∙ e ∙ sym is)) | inr w ↦ absurd (w s.worth) ]
-      ],
-      λ h. All-from_contains (Apart guards term m values) term.steps.items (λ step there. each step h),
-    )
-  where
-    by : (step : Step) (b : Bool) → int_eq step.worth m ≡ b → worth_of values term ≢ number → Apart guards term m values step
-    by step true e other = inr (inr (λ w. other (w ∙ (Decides-int_eq step.worth m).0 e ∙ is)))
-    by step false e other = inr (inl (λ w. let t = (Decides-int_eq step.worth m).1 w in cc))
+never_there L f guards term m number is_layout from_new of_layout other is =
+    nothing_new L f (Unless guards (λ values. worth_of values term ≢ number)) is_layout from_new
+    (λ values among. let s = stands_of L term values of_layout among in
+    inr (λ e. All-contains (λ (step : Step). step.worth ≢ m) term.steps.items s.step other s.there (sym s.worth ∙ e ∙ sym is)))
 
-    each : (step : Step) → Unless guards (λ values. worth_of values term ≢ number) values → Apart guards term m values step
-    each step (inl g) = inl g
-    each step (inr other) = by step (int_eq step.worth m) refl other
+-- a term that isn't worth what it is at the step of the number
+pub other_there : (L : List VariableLiterals) (guards : List Atom) (term : Term) (atom : Atom) (worth number : ℤ) (values : List ℤ) → IsTermOf L term → SaysOfTerm term atom (λ w. w ≢ worth) → worth ≡ number → AreOfDomains L values
+    → Unless guards (λ values. IsTrue (atom_holds values atom)) values ↔ Unless guards (λ values. worth_of values term ≢ number) values
+other_there L guards term atom worth number values of_layout says is among =
+    let said = so_said L term atom (λ w. w ≢ worth) values of_layout says among in (
+      λ h. elim h as (λ _. Unless guards (λ values. worth_of values term ≢ number) values) [ inl g ↦ inl g | inr a ↦ inr (λ e. said.0 a (e ∙ sym is)) ],
+      λ h. elim h as (λ _. Unless guards (λ values. IsTrue (atom_holds values atom)) values) [ inl g ↦ inl g | inr other ↦ inr (said.1 (λ e. other (e ∙ is))) ],
+    )
 
 -- what a turn over a step of the first term says, where the others are worth `rest`
 abbrev pub Parted : List Atom → Term → (List ℤ → ℤ) → ℤ → List ℤ → Step → Type 0
@@ -157,6 +121,16 @@ parted_turn L f f1 f2 guards atoms other first rest number left step d i is_layo
             | inr r ↦ inr (λ e. r (e ∙ left_is))
           ],
         )
+
+-- a turn over a step which the others can't bring to the number
+pub parted_passed : (L : List VariableLiterals) (f f1 : Cnf) (guards : List Atom) (first : Term) (rest : List ℤ → ℤ) (number : ℤ) (step d : Step) (i : ℕ) → IsLayoutOf L f
+    → i < length first.steps.items → step ≡ get_or first.steps.items i d
+    → Adds L f L f1 (λ values. All (Parted guards first rest number values) (take i first.steps.items)) → ((values : List ℤ) → AreOfDomains L values → rest values ≢ (number -ℤ step.worth))
+    → Adds L f L f1 (λ values. All (Parted guards first rest number values) (take (i + 1) first.steps.items))
+parted_passed L f f1 guards first rest number step d i is_layout low at before other =
+    one_more L f f1 f1 (Parted guards first rest number) first.steps.items i d is_layout low before
+    (nothing_new L f1 (λ values. Parted guards first rest number values (get_or first.steps.items i d)) before.goes_on.is_layout before.goes_on.from_new
+    (λ values among. subst (Parted guards first rest number values) at (inr (other values among))))
 
 -- all turns
 pub parted_all : (L : List VariableLiterals) (guards : List Atom) (first : Term) (rest : List ℤ → ℤ) (m number : ℤ) (values : List ℤ) → IsTermOf L first → AreOfDomains L values → m ≡ number

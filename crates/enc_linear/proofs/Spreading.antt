@@ -14,7 +14,7 @@ use Rattle.enc_linear.specs.Guards.{Unless}
 use Rattle.enc_linear.specs.Terms.{IsTermOf, SaysOfTerm, worth_of}
 use Rattle.enc_linear.proofs.Ladders.{so_said, stands_of}
 use Rattle.enc_linear.proofs.Saying.{with_one_more}
-use Rattle.enc_linear.proofs.Turns.{one_more}
+use Rattle.enc_linear.proofs.Turns.{one_more_beside, passed_beside}
 use Rattle.enc_var.specs.Decoding.{VariableLiterals}
 use Rattle.enc_var.specs.Layouts.{IsLayoutOf}
 
@@ -41,13 +41,17 @@ guarded_term L term guards atom most values of_layout says among =
 abbrev pub Spread : List Atom → Term → (List ℤ → ℤ) → ℤ → List ℤ → Step → Type 0
 Spread guards first rest most values step = (IsTrue (clause_holds values guards) ⊎ (worth_of values first <ℤ step.worth)) ⊎ (rest values ≤ℤ (most -ℤ step.worth))
 
+-- what the first term may be worth at most, whatever the others are
+abbrev pub HasRoom : List Atom → Term → ℤ → List ℤ → Type 0
+HasRoom guards first room = Unless guards (λ values. worth_of values first ≤ℤ room)
+
 -- a turn
-pub spread_turn : (L : List VariableLiterals) (f f1 f2 : Cnf) (guards atoms : List Atom) (less : Atom) (first : Term) (rest : List ℤ → ℤ) (most left : ℤ) (step d : Step) (i : ℕ) → IsLayoutOf L f → IsTermOf L first
+pub spread_turn : (L : List VariableLiterals) (f f1 f2 : Cnf) (guards atoms : List Atom) (less : Atom) (first : Term) (rest : List ℤ → ℤ) (room most left : ℤ) (step d : Step) (i : ℕ) → IsLayoutOf L f → IsTermOf L first
     → i < length first.steps.items → step ≡ get_or first.steps.items i d → SaysOfTerm first less (λ worth. worth <ℤ step.worth) → atoms ≡ guards ++ less ∷ []
-    → Adds L f L f1 (λ values. All (Spread guards first rest most values) (take i first.steps.items)) → Adds L f1 L f2 (Unless atoms (λ values. rest values ≤ℤ left)) → left ≡ most -ℤ step.worth
-    → Adds L f L f2 (λ values. All (Spread guards first rest most values) (take (i + 1) first.steps.items))
-spread_turn L f f1 f2 guards atoms less first rest most left step d i is_layout of_layout low at says is before added left_is =
-    one_more L f f1 f2 (Spread guards first rest most) first.steps.items i d is_layout low before
+    → Adds L f L f1 (λ values. HasRoom guards first room values × All (Spread guards first rest most values) (take i first.steps.items)) → Adds L f1 L f2 (Unless atoms (λ values. rest values ≤ℤ left)) → left ≡ most -ℤ step.worth
+    → Adds L f L f2 (λ values. HasRoom guards first room values × All (Spread guards first rest most values) (take (i + 1) first.steps.items))
+spread_turn L f f1 f2 guards atoms less first rest room most left step d i is_layout of_layout low at says is before added left_is =
+    one_more_beside L f f1 f2 (HasRoom guards first room) (Spread guards first rest most) first.steps.items i d is_layout low before
     (adds_like L f1 L f2 (Unless atoms (λ values. rest values ≤ℤ left)) (λ values. Spread guards first rest most values (get_or first.steps.items i d)) before.goes_on.is_layout added
     (λ values among. subst (λ (s : Step). Unless atoms (λ values. rest values ≤ℤ left) values ↔ Spread guards first rest most values s) at (same values among)))
   where
@@ -65,6 +69,26 @@ spread_turn L f f1 f2 guards atoms less first rest most left step d i is_layout 
             | inr r ↦ inr (omega (arith, ints, r, left_is))
           ],
         )
+
+-- a step that is worth more than the room
+pub spread_beyond : (L : List VariableLiterals) (f f1 : Cnf) (guards : List Atom) (first : Term) (rest : List ℤ → ℤ) (room most : ℤ) (step d : Step) (i : ℕ) → IsLayoutOf L f
+    → i < length first.steps.items → step ≡ get_or first.steps.items i d
+    → Adds L f L f1 (λ values. HasRoom guards first room values × All (Spread guards first rest most values) (take i first.steps.items)) → room <ℤ step.worth
+    → Adds L f L f1 (λ values. HasRoom guards first room values × All (Spread guards first rest most values) (take (i + 1) first.steps.items))
+spread_beyond L f f1 guards first rest room most step d i is_layout low at before far =
+    passed_beside L f f1 (HasRoom guards first room) (Spread guards first rest most) first.steps.items i d is_layout low before
+    (λ values among h. subst (Spread guards first rest most values) at
+    (elim h as (λ _. Spread guards first rest most values step) [ inl g ↦ inl (inl g) | inr within ↦ inl (inr (omega (arith, ints, within, far))) ]))
+
+-- a step which leaves enough for whatever the others are
+pub spread_enough : (L : List VariableLiterals) (f f1 : Cnf) (guards : List Atom) (first : Term) (rest : List ℤ → ℤ) (room most greatest : ℤ) (step d : Step) (i : ℕ) → IsLayoutOf L f
+    → i < length first.steps.items → step ≡ get_or first.steps.items i d
+    → Adds L f L f1 (λ values. HasRoom guards first room values × All (Spread guards first rest most values) (take i first.steps.items))
+    → ((values : List ℤ) → AreOfDomains L values → rest values ≤ℤ greatest) → greatest ≤ℤ (most -ℤ step.worth)
+    → Adds L f L f1 (λ values. HasRoom guards first room values × All (Spread guards first rest most values) (take (i + 1) first.steps.items))
+spread_enough L f f1 guards first rest room most greatest step d i is_layout low at before within enough =
+    passed_beside L f f1 (HasRoom guards first room) (Spread guards first rest most) first.steps.items i d is_layout low before
+    (λ values among h. subst (Spread guards first rest most values) at (let high = within values among in inr (omega (arith, ints, high, enough))))
 
 -- all turns
 pub spread_all : (L : List VariableLiterals) (guards : List Atom) (first : Term) (rest : List ℤ → ℤ) (most : ℤ) (values : List ℤ) → IsTermOf L first → AreOfDomains L values
@@ -84,8 +108,12 @@ spread_all L guards first rest most values of_layout among =
     each step (inl g) = inl (inl g)
     each step (inr low) = by_lt_z (worth_of values first) step.worth (λ lt. inl (inr lt)) (λ ge. inr (omega (arith, ints, low, ge)))
 
--- all turns, with the number in other words
-pub spread_said : (L : List VariableLiterals) (guards : List Atom) (first : Term) (rest : List ℤ → ℤ) (m most : ℤ) (values : List ℤ) → IsTermOf L first → AreOfDomains L values → m ≡ most
-    → All (Spread guards first rest m values) first.steps.items ↔ Unless guards (λ values. (worth_of values first +ℤ rest values) ≤ℤ most) values
-spread_said L guards first rest m most values of_layout among same =
-    subst (λ (n : ℤ). All (Spread guards first rest m values) first.steps.items ↔ Unless guards (λ values. (worth_of values first +ℤ rest values) ≤ℤ n) values) same (spread_all L guards first rest m values of_layout among)
+-- all turns beside the room, with the numbers in other words
+pub spread_said : (L : List VariableLiterals) (guards : List Atom) (first : Term) (rest : List ℤ → ℤ) (room least m most : ℤ) (values : List ℤ) → IsTermOf L first → AreOfDomains L values → m ≡ most
+    → least ≤ℤ rest values → room ≡ most -ℤ least
+    → (HasRoom guards first room values × All (Spread guards first rest m values) first.steps.items) ↔ Unless guards (λ values. (worth_of values first +ℤ rest values) ≤ℤ most) values
+spread_said L guards first rest room least m most values of_layout among same low is =
+    subst (λ (n : ℤ). (HasRoom guards first room values × All (Spread guards first rest n values) first.steps.items) ↔ Unless guards (λ values. (worth_of values first +ℤ rest values) ≤ℤ most) values) (sym same) (
+      λ h. (spread_all L guards first rest most values of_layout among).0 h.1,
+      λ h. (elim h as (λ _. HasRoom guards first room values) [ inl g ↦ inl g | inr within ↦ inr (omega (arith, ints, within, low, is)) ], (spread_all L guards first rest most values of_layout among).1 h),
+    )

@@ -43,6 +43,35 @@ all_turns L f f1 Q R xs n is_layout long added same =
     adds_like L f L f1 (λ values. All (Q values) (take n xs)) R is_layout added
     (λ values among. (λ h. (same values among).0 (subst (All (Q values)) whole h), λ r. subst (All (Q values)) (sym whole) ((same values among).1 r)))
 
+-- what was added beside turns, before the first one
+pub begun_beside : {X : Type 0} (L : List VariableLiterals) (f f1 : Cnf) (A : List ℤ → Type 0) (Q : List ℤ → X → Type 0) (xs : List X) → IsLayoutOf L f → Adds L f L f1 A → Adds L f L f1 (λ values. A values × All (Q values) (take 0 xs))
+begun_beside L f f1 A Q xs is_layout added =
+    adds_like L f L f1 A (λ values. A values × All (Q values) (take 0 xs)) is_layout added (λ values among. (λ a. (a, All-nil (Q values)), λ h. h.0))
+
+-- one turn more beside what was added
+pub one_more_beside : {X : Type 0} (L : List VariableLiterals) (f f1 f2 : Cnf) (A : List ℤ → Type 0) (Q : List ℤ → X → Type 0) (xs : List X) (i : ℕ) (d : X) → IsLayoutOf L f → i < length xs
+    → Adds L f L f1 (λ values. A values × All (Q values) (take i xs)) → Adds L f1 L f2 (λ values. Q values (get_or xs i d)) → Adds L f L f2 (λ values. A values × All (Q values) (take (i + 1) xs))
+one_more_beside L f f1 f2 A Q xs i d is_layout low before turn =
+    adds_like L f L f2 (λ values. (A values × All (Q values) (take i xs)) × Q values (get_or xs i d)) (λ values. A values × All (Q values) (take (i + 1) xs)) is_layout
+    (adds_both L f f1 L f2 (λ values. A values × All (Q values) (take i xs)) (λ values. Q values (get_or xs i d)) is_layout before turn)
+    (λ values among. (λ h. (h.0.0, All-more (Q values) xs i d low h.0.1 h.1), λ h. let p = front_and_next (Q values) xs i d low h.1 in ((h.0, p.0), p.1)))
+
+-- a turn that what was added beside says already
+pub passed_beside : {X : Type 0} (L : List VariableLiterals) (f f1 : Cnf) (A : List ℤ → Type 0) (Q : List ℤ → X → Type 0) (xs : List X) (i : ℕ) (d : X) → IsLayoutOf L f → i < length xs
+    → Adds L f L f1 (λ values. A values × All (Q values) (take i xs)) → ((values : List ℤ) → AreOfDomains L values → A values → Q values (get_or xs i d))
+    → Adds L f L f1 (λ values. A values × All (Q values) (take (i + 1) xs))
+passed_beside L f f1 A Q xs i d is_layout low before holds =
+    adds_like L f L f1 (λ values. A values × All (Q values) (take i xs)) (λ values. A values × All (Q values) (take (i + 1) xs)) is_layout before
+    (λ values among. (λ h. (h.0, All-more (Q values) xs i d low h.1 (holds values among h.0)), λ h. (h.0, (front_and_next (Q values) xs i d low h.1).0)))
+
+-- all turns beside what was added
+pub all_turns_beside : {X : Type 0} (L : List VariableLiterals) (f f1 : Cnf) (A : List ℤ → Type 0) (Q : List ℤ → X → Type 0) (R : List ℤ → Type 0) (xs : List X) (n : ℕ) → IsLayoutOf L f → length xs ≤ n
+    → Adds L f L f1 (λ values. A values × All (Q values) (take n xs)) → ((values : List ℤ) → AreOfDomains L values → (A values × All (Q values) xs) ↔ R values) → Adds L f L f1 R
+all_turns_beside L f f1 A Q R xs n is_layout long added same =
+    let whole = take_all n xs long in
+    adds_like L f L f1 (λ values. A values × All (Q values) (take n xs)) R is_layout added
+    (λ values among. (λ h. (same values among).0 (h.0, subst (All (Q values)) whole h.1), λ r. let h = (same values among).1 r in (h.0, subst (All (Q values)) (sym whole) h.1)))
+
 -- the same in other words, where there is memory
 pub relabelled : {T E : Type 0} (r : Result T E) (L : List VariableLiterals) (f : Cnf) (L1 : List VariableLiterals) (g : Cnf) (P R : List ℤ → Type 0) → IsLayoutOf L f
     → ((values : List ℤ) → AreOfDomains L values → P values ↔ R values) → OnOk r (Adds L f L1 g P) → OnOk r (Adds L f L1 g R)

@@ -7,8 +7,9 @@ ghost use Rattle.enc_linear.specs.Guards.{Unless};
 ghost use Rattle.enc_linear.specs.Terms.{HasOrderedSteps, IsTermOf, SaysOfTerm, worth_of};
 ghost use Rattle.enc_var.specs.Layouts.{IsLayoutOf};
 
+use crate::bounds::{added, is_over, is_under};
 use crate::guards::{add_guarded, with_atom};
-use crate::terms::{Step, Term};
+use crate::terms::{Step, Term, step_worth};
 use cnf_core::Formula;
 use enc_atoms::{Atom, add_clause};
 use enc_var::Layout;
@@ -63,20 +64,15 @@ pub(crate) fn add_one_apart(
     ensures { OnOk result (Adds layout.now f.old layout.now f.new
         (Unless guards.now (λ values. worth_of values term.now ≢ number))) }
 {
-    for step in &term.steps {
-        if step.worth < number {
-            continue;
-        }
-        if number < step.worth {
-            continue;
-        }
-        let other = other_than(term, *step);
-        add_guarded(alloc, layout, f, guards, other)?;
-    }
-    Ok(())
+    let Some(step) = step_worth(term, number) else {
+        return Ok(());
+    };
+    let other = other_than(term, step);
+    add_guarded(alloc, layout, f, guards, other)
 }
 
-/// Adds that the sum of two terms isn't the number, unless a guard holds: a clause for each step of the first.
+/// Adds that the sum of two terms isn't the number, unless a guard holds: a clause for each step of the first that the
+/// second can bring to it.
 pub(crate) fn add_two_apart(
     alloc: Global,
     layout: &Layout,
@@ -95,16 +91,22 @@ pub(crate) fn add_two_apart(
         (Unless guards.now (λ values. (worth_of values first.now +ℤ worth_of values second.now) ≢ number))) }
 {
     for step in &first.steps {
+        let left = number.checked_sub(step.worth).ok_or(Memory)?;
+        if is_under(left, second.bounds) {
+            continue;
+        }
+        if is_over(left, second.bounds) {
+            continue;
+        }
         let other = other_than(first, *step);
         let atoms = with_atom(alloc, guards, other)?;
-        let left = number.checked_sub(step.worth).ok_or(Memory)?;
         add_one_apart(alloc, layout, f, &atoms, second, left)?;
     }
     Ok(())
 }
 
-/// Adds that the sum of three terms isn't the number, unless a guard holds: a clause for each step of the first and of
-/// the second.
+/// Adds that the sum of three terms isn't the number, unless a guard holds: for each step of the first which the others
+/// can bring to it what is said of them then.
 pub(crate) fn add_three_apart(
     alloc: Global,
     layout: &Layout,
@@ -124,10 +126,17 @@ pub(crate) fn add_three_apart(
     ensures { OnOk result (Adds layout.now f.old layout.now f.new
         (Unless guards.now (λ values. (worth_of values first.now +ℤ (worth_of values second.now +ℤ worth_of values third.now)) ≢ number))) }
 {
+    let rest = added(second.bounds, third.bounds)?;
     for step in &first.steps {
+        let left = number.checked_sub(step.worth).ok_or(Memory)?;
+        if is_under(left, rest) {
+            continue;
+        }
+        if is_over(left, rest) {
+            continue;
+        }
         let other = other_than(first, *step);
         let atoms = with_atom(alloc, guards, other)?;
-        let left = number.checked_sub(step.worth).ok_or(Memory)?;
         add_two_apart(alloc, layout, f, &atoms, second, third, left)?;
     }
     Ok(())

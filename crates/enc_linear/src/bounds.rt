@@ -1,6 +1,6 @@
 //! Between which numbers sums lie, so that partial sums are told apart only where that matters.
 
-ghost use Rattle.std.specs.Prelude.{◌≡◌, ◌≤ℤ◌, ◌+ℤ◌, ◌-ℤ◌, neg_ℤ, pos, IfOk};
+ghost use Rattle.std.specs.Prelude.{◌≡◌, ◌≤ℤ◌, ◌+ℤ◌, ◌-ℤ◌, int_le, int_lt, neg_ℤ, pos, IfOk};
 ghost use Rattle.enc_linear.specs.Bounds.{HasBounds, clipped};
 ghost use Rattle.enc_linear.specs.Terms.{HoldsSteps};
 
@@ -60,6 +60,27 @@ pub(crate) fn bounds_of(steps: &[Step]) -> Bounds
         bounds = widened(bounds, step.worth);
     }
     bounds
+}
+
+/// Whether a number is less than all that lies within bounds.
+pub(crate) fn is_under(number: i128, bounds: Bounds) -> bool
+    ensures { result ≡ int_lt number bounds.least }
+{
+    number < bounds.least
+}
+
+/// Whether a number is greater than all that lies within bounds.
+pub(crate) fn is_over(number: i128, bounds: Bounds) -> bool
+    ensures { result ≡ int_lt bounds.greatest number }
+{
+    bounds.greatest < number
+}
+
+/// Whether a number is no less than all that lies within bounds.
+pub(crate) fn is_enough(number: i128, bounds: Bounds) -> bool
+    ensures { result ≡ int_le bounds.greatest number }
+{
+    bounds.greatest <= number
 }
 
 /// The bounds of a sum of two that lie within bounds.

@@ -1,6 +1,6 @@
 //! Terms of sums: variables whose numbers are worth something.
 
-ghost use Rattle.std.specs.Prelude.{◌≡◌, ◌↔◌, ◌≤◌, ◌<◌, ◌<ℤ◌, ◌≤ℤ◌, true, false, length, IfOk, IsTrue, MatchOption, MatchResult};
+ghost use Rattle.std.specs.Prelude.{◌≡◌, ◌≢◌, ◌↔◌, ◌≤◌, ◌<◌, ◌<ℤ◌, ◌≤ℤ◌, true, false, length, IfOk, IsTrue, MatchOption, MatchResult};
 ghost use Rattle.std.specs.List.{All, AllPairs, AllWithin, Contains};
 ghost use Rattle.enc_atoms.specs.Atoms.{test_holds};
 ghost use Rattle.enc_linear.specs.Terms.{AreInOrder, HasOrderedSteps, SaysOfTerm};
@@ -103,4 +103,50 @@ pub(crate) fn up_to(term: &Term, most: i128) -> Result<Option<Atom>, Memory>
         return Ok(rising_up_to(term.var, &term.steps, most));
     }
     falling_up_to(term.var, &term.steps, most)
+}
+
+/// The step of some that are worth more and more which is worth so much, by binary search.
+fn rising_worth(steps: &[Step], worth: i128) -> Option<Step>
+    requires { AllPairs (AreInOrder true) steps.now }
+    ensures { MatchOption result (All (λ step. step.worth ≢ worth) steps.now)
+        (λ step. Contains steps.now step × (step.worth ≡ worth)) }
+{
+    let count = count_up_to(steps, worth);
+    if count == 0 {
+        return None;
+    }
+    let last = steps[count - 1];
+    if last.worth < worth {
+        return None;
+    }
+    Some(last)
+}
+
+/// The step of some that are worth less and less which is worth so much, by binary search.
+fn falling_worth(steps: &[Step], worth: i128) -> Option<Step>
+    requires { AllPairs (AreInOrder false) steps.now }
+    ensures { MatchOption result (All (λ step. step.worth ≢ worth) steps.now)
+        (λ step. Contains steps.now step × (step.worth ≡ worth)) }
+{
+    let count = count_above(steps, worth);
+    if count == steps.len() {
+        return None;
+    }
+    let first = steps[count];
+    if first.worth < worth {
+        return None;
+    }
+    Some(first)
+}
+
+/// The step at which a term is worth so much, by binary search.
+pub(crate) fn step_worth(term: &Term, worth: i128) -> Option<Step>
+    requires { HasOrderedSteps term.now }
+    ensures { MatchOption result (All (λ step. step.worth ≢ worth) term.now.steps.items)
+        (λ step. Contains term.now.steps.items step × (step.worth ≡ worth)) }
+{
+    if term.rising {
+        return rising_worth(&term.steps, worth);
+    }
+    falling_worth(&term.steps, worth)
 }
