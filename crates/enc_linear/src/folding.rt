@@ -145,11 +145,26 @@ fn pairs(terms: &VecDeque<Term>, place: usize, next: usize) -> usize {
     }
 }
 
-/// Whether the first two terms are as wide as each other, or have few steps.
+/// By how much a term's worth changes from each step to the next; none where that isn't one number.
+fn gap(term: &Term) -> Option<u128> {
+    let [first, second, ..] = term.steps.as_slice() else {
+        return None;
+    };
+    let gap = second.worth.abs_diff(first.worth);
+    for next in 1..term.steps.len() {
+        if term.steps[next].worth.abs_diff(term.steps[next - 1].worth) != gap {
+            return None;
+        }
+    }
+    Some(gap)
+}
+
+/// Whether the first two terms are as wide as each other and come by the same steps, evenly, so that their sums are few, or
+/// have few steps.
 fn are_alike(terms: &VecDeque<Term>) -> bool {
     match (terms.get(0), terms.get(1)) {
         (Some(one), Some(other)) => {
-            let same = span(one) == span(other) && one.steps.len() == other.steps.len();
+            let same = span(one) == span(other) && gap(one).is_some() && gap(one) == gap(other);
             same || pairs(terms, 0, 1) <= MOST_PAIRS
         }
         _ => false,
