@@ -17,11 +17,11 @@ class Costs(Case):
             shutil.copy(f"{ROOT}/{it}", f"{self.folder}/{it}")
         rows = read(f"{ROOT}/tools/tests/stored/costs.txt").split("\n")
         talks = next(it for it in rows if it.startswith("talks "))
-        kept = [it.replace(" 184 ", " 183 ") for it in rows if not it.startswith("roster ")]
+        kept = [it.replace(" 183 ", " 182 ") for it in rows if not it.startswith("roster ")]
         write(f"{self.folder}/tools/tests/stored/costs.txt", "\n".join(kept))
         status, out, _ = self.call(f"{self.folder}/tools/costs", "talks", "roster", EPSAT_TESTED=program())
         self.assertEqual(status, 1)
-        self.assertIn(f"{talks}, was 36 89 183 0\n", out)
+        self.assertIn(f"{talks}, was 36 88 182 0\n", out)
         self.assertIn("was not there", out)
         self.assertEqual(self.call(f"{self.folder}/tools/costs", "--write", "talks", "roster", EPSAT_TESTED=program())[0], 0)
         self.assertEqual(self.call(f"{self.folder}/tools/costs", "talks", "roster", EPSAT_TESTED=program())[0], 0)
