@@ -85,7 +85,7 @@ second_false false false e = refl
 abbrev pub IsWord : List ℕ → Type 0
 IsWord word = (list_all is_plain word ≡ true) × (0 < length word)
 
-plain_digit : (b : ℕ) → is_ascii_digit b ≡ true → is_plain b ≡ true
+pub plain_digit : (b : ℕ) → is_ascii_digit b ≡ true → is_plain b ≡ true
 plain_digit b e =
     let r = digit_range b e in
     let a : eqb b 32 ≡ false = grind (arith, nat_tests) in

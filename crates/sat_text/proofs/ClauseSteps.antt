@@ -27,9 +27,14 @@ unfolding clauses_of_words
 none_left last f zero begun word later answer e c = sym c
 none_left last f (suc left) begun word later answer e c = absurd (omega (arith, e))
 
-pub no_number : (last : ℕ) (f : Cnf) (left : ℕ) (begun : List Literal) (word : PlacedWord) (later : List PlacedWord) (answer : Result (List (List Literal)) ℕ) → 0 < left → whole_of word.bytes ≡ None
+no_number : (last : ℕ) (f : Cnf) (left : ℕ) (begun : List Literal) (word : PlacedWord) (later : List PlacedWord) (answer : Result (List (List Literal)) ℕ) → 0 < left → whole_of word.bytes ≡ None
     → Completes last f left begun (word ∷ later) answer → answer ≡ Err word.line
 no_number last f left begun word later answer some e c = sym (rw e at (at_next last f left begun word later answer some c))
+
+pub wrong_word : (last : ℕ) (f : Cnf) (left : ℕ) (begun : List Literal) (word : PlacedWord) (later : List PlacedWord) (answer : Result (List (List Literal)) ℕ) → whole_of word.bytes ≡ None → Completes last f left begun (word ∷ later) answer
+    → answer ≡ Err word.line
+wrong_word last f zero begun word later answer e c = none_left last f 0 begun word later answer refl c
+wrong_word last f (suc left) begun word later answer e c = no_number last f (suc left) begun word later answer (omega arith) e c
 
 regroup : (front : List (List Literal)) (clause : List Literal) (read : Result (List (List Literal)) ℕ) → behind_clauses front (with_clause clause read) ≡ behind_clauses (front ++ clause ∷ []) read
 regroup front clause (Ok clauses) = ap (λ (cs : List (List Literal)). Ok cs) (simp append_assoc)

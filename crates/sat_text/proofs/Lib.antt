@@ -1,4 +1,7 @@
 pub mod Cuts
+pub mod Heads
+pub mod Places
+pub mod Commented
 pub mod Digits
 pub mod ItemSteps
 pub mod Order
@@ -8,6 +11,7 @@ pub mod ClauseSteps
 pub mod FormulaSteps
 pub mod NotePieces
 pub mod Again
+pub mod Ahead
 pub mod LogAgain
 pub mod CnfAgain
 pub mod CellPlain

@@ -1,5 +1,5 @@
 -- What a reader of a part answers, against what reading gives.
-use Rattle.std.specs.Prelude.{◌≡◌, List, [], ◌∷◌, ◌++◌, Option, Some, None, Result, Ok, Err, option_and_then}
+use Rattle.std.specs.Prelude.{◌≡◌, [], ◌∷◌, ◌++◌, Option, Some, None, Result, Ok, Err, option_and_then}
 use Rattle.cnf_core.specs.Lines.{ProofLine}
 use Rattle.sat_proof.specs.Lines.{FlatProof, proof_lines}
 use Rattle.sat_text.specs.declared.faults.Fault.{Fault}

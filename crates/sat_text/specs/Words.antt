@@ -17,6 +17,21 @@ ended_by ends (b ∷ text) =
 abbrev pub lines : List ℕ → List (List ℕ)
 lines text = ended_by (λ b. b == 10) text
 
+-- the first line of a text
+abbrev pub first_line : List ℕ → List ℕ
+first_line [] = []
+first_line (b ∷ text) = if b == 10 then [] else b ∷ first_line text
+
+-- what stands behind the end of the first line
+abbrev pub behind_line : List ℕ → List ℕ
+behind_line [] = []
+behind_line (b ∷ text) = if b == 10 then text else behind_line text
+
+-- whether a line begins behind these bytes, where one does, or doesn't, in front of them
+abbrev pub ends_line : Bool → List ℕ → Bool
+ends_line is_start [] = is_start
+ends_line is_start (b ∷ bytes) = ends_line (b == 10) bytes
+
 -- how many lines a text has, or 1 where it is empty
 abbrev pub last_line : List ℕ → ℕ
 last_line text = max 1 (length (lines text))
@@ -38,6 +53,10 @@ words line = filter has_bytes (slice_split is_between_words line)
 abbrev pub is_comment : List ℕ → Bool
 is_comment [] = false
 is_comment (b ∷ line) = b == 99
+
+-- the lines of a text that are comments
+abbrev pub comments : List ℕ → List (List ℕ)
+comments text = filter is_comment (lines text)
 
 -- whether there is no word
 abbrev pub has_no_word : List (List ℕ) → Bool
@@ -74,3 +93,13 @@ placed_words text = text_words 1 (lines text)
 -- a byte that ends neither a word nor a line
 abbrev pub is_plain : ℕ → Bool
 is_plain b = not (is_between_words b || b == 10)
+
+-- the word that a text begins with, or nothing where it begins with none
+abbrev pub first_word : List ℕ → List ℕ
+first_word [] = []
+first_word (b ∷ text) = if is_plain b then b ∷ first_word text else []
+
+-- what stands behind the word that a text begins with
+abbrev pub behind_word : List ℕ → List ℕ
+behind_word [] = []
+behind_word (b ∷ text) = if is_plain b then behind_word text else b ∷ text

@@ -1,16 +1,17 @@
 //! Reads the clauses of a formula's text.
 
-ghost use Rattle.std.specs.Prelude.{◌≡◌, ◌<◌, ◌≤◌, ◌+◌, ◌^◌, ◌++◌, ◌∷◌, [], false, ℕ, List, Result, Ok, length, OnOk, IfOk, MatchResult};
+ghost use Rattle.std.specs.Prelude.{◌≡◌, ◌<◌, ◌≤◌, ◌+◌, ◌^◌, ◌++◌, ◌∷◌, [], false, ℕ, List, Result, Ok, Some, length, unsigned_abs, OnOk, IfOk, MatchResult};
 ghost use Rattle.cnf_core.specs.Literal.{Literal, VariablesUpTo};
-ghost use Rattle.sat_text.specs.Words.{lines, words, PlacedWord, words_on, text_words};
+ghost use Rattle.sat_text.specs.Words.{lines, first_line, behind_line, words, PlacedWord, words_on, text_words};
+ghost use Rattle.sat_text.specs.Numbers.{whole_of};
 ghost use Rattle.sat_text.specs.Clauses.{in_order};
 ghost use Rattle.sat_text.specs.Cnf.{clauses_of_words, Completes, StopsLine};
 
 use crate::faults::Stop;
 use crate::items::{is_zero, literal};
-use crate::numbers::whole;
+use crate::numbers::next_whole;
 use crate::proof::order;
-use crate::words::{is_comment_line, next_line, next_word};
+use crate::words::{blank, is_comment_line, split_line};
 use cnf_core::{Formula, Lit};
 use ep_base::Memory;
 use std::alloc::Global;
@@ -28,21 +29,23 @@ fn end_clause(f: &mut Formula, begun: &mut Vec<Lit>) -> Result<(), Memory>
     Ok(())
 }
 
-/// Takes the next word of the clauses.
-fn take_word(
+/// Takes the number of the next word of the clauses.
+fn take_number(
     f: &mut Formula,
     left: &mut u64,
     begun: &mut Vec<Lit>,
     line: u64,
-    word: &[u8],
+    number: i64,
 ) -> Result<(), Stop>
-    requires { VariablesUpTo f.old.vars begun.old.items }
+    requires variables { VariablesUpTo f.old.vars begun.old.items }
+    requires small { unsigned_abs number < 10 ^ 18 }
     ensures small { OnOk result (VariablesUpTo f.new.vars begun.new.items) }
     ensures vars { OnOk result (f.new.vars ≡ f.old.vars) }
     ensures origin { OnOk result (f.new.from_new ≡ f.old.from_new) }
-    ensures next { (last : ℕ) (later : List PlacedWord) (answer : Result (List (List Literal)) ℕ) →
-        Completes last f.old left.old begun.old.items
-        (record { line = line; bytes = word.now } ∷ later) answer →
+    ensures next { (last : ℕ) (word : PlacedWord) (later : List PlacedWord)
+        (answer : Result (List (List Literal)) ℕ) →
+        word.line ≡ line → whole_of word.bytes ≡ Some number →
+        Completes last f.old left.old begun.old.items (word ∷ later) answer →
         MatchResult result
         (λ _. Completes last f.new left.new begun.new.items later answer)
         (λ stop. StopsLine last stop answer) }
@@ -50,9 +53,6 @@ fn take_word(
     if *left == 0 {
         return Err(Stop::At(line));
     }
-    let Some(number) = whole(word) else {
-        return Err(Stop::At(line));
-    };
     if is_zero(number) {
         end_clause(f, begun)?;
         *left -= 1;
@@ -66,31 +66,42 @@ fn take_word(
     Ok(())
 }
 
-/// Takes the words of a line of the clauses.
-fn take_line(
+/// Takes the words of the first line of a text, and gives what stands behind its line end.
+fn take_line<'a>(
     f: &mut Formula,
     left: &mut u64,
     begun: &mut Vec<Lit>,
     number: u64,
-    line: &[u8],
-) -> Result<(), Stop>
+    text: &'a [u8],
+) -> Result<&'a [u8], Stop>
     requires { VariablesUpTo f.old.vars begun.old.items }
     ensures small { OnOk result (VariablesUpTo f.new.vars begun.new.items) }
     ensures vars { OnOk result (f.new.vars ≡ f.old.vars) }
     ensures origin { OnOk result (f.new.from_new ≡ f.old.from_new) }
+    ensures rest { IfOk result (λ rest. rest.now ≡ behind_line text.now) }
     ensures next { (last : ℕ) (later : List PlacedWord) (answer : Result (List (List Literal)) ℕ) →
         Completes last f.old left.old begun.old.items
-        (words_on number (words line.now) ++ later) answer →
+        (words_on number (words (first_line text.now)) ++ later) answer →
         MatchResult result
         (λ _. Completes last f.new left.new begun.new.items later answer)
         (λ stop. StopsLine last stop answer) }
 {
-    let mut rest = line;
-    while let Some((word, after)) = next_word(rest) {
-        take_word(f, left, begun, number, word)?;
-        rest = after;
+    let mut rest = text;
+    while let [b, later @ ..] = rest {
+        if *b == b'\n' {
+            return Ok(later);
+        }
+        if blank(*b) {
+            rest = later;
+        } else {
+            let Some((found, after)) = next_whole(rest) else {
+                return Err(Stop::At(number));
+            };
+            take_number(f, left, begun, number, found)?;
+            rest = after;
+        }
     }
-    Ok(())
+    Ok(rest)
 }
 
 /// The clauses of a text, whose first line has the number behind this one.
@@ -116,12 +127,13 @@ pub(crate) fn read_clauses(
     let mut begun = Vec::new(alloc);
     let mut rest = text;
     let mut number = before;
-    while let Some((line, later)) = next_line(rest) {
+    while !rest.is_empty() {
         number += 1;
-        if !is_comment_line(line) {
-            take_line(&mut f, &mut left, &mut begun, number, line)?;
+        if is_comment_line(rest) {
+            rest = split_line(rest).1;
+        } else {
+            rest = take_line(&mut f, &mut left, &mut begun, number, rest)?;
         }
-        rest = later;
     }
     if left == 0 { Ok(f) } else { Err(Stop::Ends) }
 }

@@ -11,7 +11,7 @@ ghost use Rattle.sat_text.specs.Notes.{is_free_name, are_wholes, are_indices, is
 
 use crate::items::{is_zero, literal};
 use crate::numbers::{natural, whole};
-use crate::words::{is_comment_line, next_line};
+use crate::words::{next_comment, place_of};
 use cnf_core::CellNote;
 use ep_base::{Memory, begins_name, continues_name, is_word};
 use std::alloc::Global;
@@ -46,12 +46,6 @@ fn next_piece(bytes: &[u8], separator: u8) -> (&[u8], Option<&[u8]>)
         }
         None => (bytes, None),
     }
-}
-
-fn place_of(bytes: &[u8], separator: u8) -> Option<usize>
-    ensures { result ≡ position (λ b. b == separator) bytes.now }
-{
-    bytes.iter().position(|b| *b == separator)
 }
 
 fn all_wholes(bytes: &[u8]) -> bool
@@ -196,13 +190,11 @@ pub(crate) fn read_notes(alloc: Global, text: &[u8]) -> Result<(Vec<CellNote>, u
     let mut notes = Vec::new(alloc);
     let mut last_added = 0;
     let mut rest = text;
-    while let Some((line, later)) = next_line(rest) {
-        if is_comment_line(line) {
-            if let Some(found) = note(alloc, line)? {
-                notes.push(found)?;
-            }
-            last_added = added(line).unwrap_or(last_added);
+    while let Some((line, later)) = next_comment(rest) {
+        if let Some(found) = note(alloc, line)? {
+            notes.push(found)?;
         }
+        last_added = added(line).unwrap_or(last_added);
         rest = later;
     }
     Ok((notes, last_added))

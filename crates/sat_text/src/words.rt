@@ -1,7 +1,9 @@
 //! Cuts a text into lines, and a line into words.
 
-ghost use Rattle.std.specs.Prelude.{◌≡◌, ◌<◌, ◌==◌, [], ◌∷◌, length, not, IfSome, MatchOption, position};
-ghost use Rattle.sat_text.specs.Words.{lines, words, is_between_words, is_comment};
+ghost use Rattle.std.specs.Prelude.{◌≡◌, ◌<◌, ◌==◌, [], ◌∷◌, true, length, not, IfSome, MatchOption, position};
+ghost use Rattle.sat_text.specs.Words.{lines, first_line, behind_line, ends_line, words, comments, is_between_words, is_plain, is_comment};
+
+use memchr::memchr;
 
 /// The first line of a text, and what stands behind its line end.
 pub(crate) fn next_line(text: &[u8]) -> Option<(&[u8], &[u8])>
@@ -12,13 +14,46 @@ pub(crate) fn next_line(text: &[u8]) -> Option<(&[u8], &[u8])>
     if text.is_empty() {
         return None;
     }
-    match line_end(text) {
+    Some(split_line(text))
+}
+
+/// The first line of a text, and what stands behind its line end.
+pub(crate) fn split_line(text: &[u8]) -> (&[u8], &[u8])
+    ensures line { result.0.now ≡ first_line text.now }
+    ensures later { result.1.now ≡ behind_line text.now }
+{
+    match place_of(text, b'\n') {
         Some(end) => {
-            let (_, rest) = text.split_at(end + 1);
-            Some((&text[..end], rest))
+            let (_, later) = text.split_at(end + 1);
+            (&text[..end], later)
         }
-        None => Some((text, &[])),
+        None => (text, &[]),
     }
+}
+
+/// The first comment of a text, and what stands behind its line end.
+pub(crate) fn next_comment(text: &[u8]) -> Option<(&[u8], &[u8])>
+    ensures cuts { MatchOption result (comments text.now ≡ [])
+        (λ found. comments text.now ≡ found.0.now ∷ comments found.1.now) }
+    ensures shorter { IfSome result (λ found. length found.1.now < length text.now) }
+{
+    let mut rest = text;
+    while let Some(start) = place_of(rest, b'c') {
+        let (before, found) = rest.split_at(start);
+        let (line, later) = split_line(found);
+        if is_at_line_start(before) {
+            return Some((line, later));
+        }
+        rest = later;
+    }
+    None
+}
+
+/// Whether a line begins behind these bytes, which begin with a line.
+fn is_at_line_start(before: &[u8]) -> bool
+    ensures { result ≡ ends_line true before.now }
+{
+    before.is_empty() || before[before.len() - 1] == b'\n'
 }
 
 /// The first word of a line, and what stands behind it.
@@ -38,10 +73,11 @@ pub(crate) fn next_word(line: &[u8]) -> Option<(&[u8], &[u8])>
     }
 }
 
-fn line_end(text: &[u8]) -> Option<usize>
-    ensures { result ≡ position (λ b. b == 10) text.now }
+/// The place of the first byte that is this one.
+pub(crate) fn place_of(bytes: &[u8], wanted: u8) -> Option<usize>
+    ensures { result ≡ position (λ b. b == wanted) bytes.now }
 {
-    text.iter().position(|b| *b == b'\n')
+    memchr(wanted, bytes)
 }
 
 fn word_start(line: &[u8]) -> Option<usize>
@@ -56,10 +92,17 @@ fn word_end(rest: &[u8]) -> Option<usize>
     rest.iter().position(|b| blank(*b))
 }
 
-fn blank(b: u8) -> bool
+pub(crate) fn blank(b: u8) -> bool
     ensures { result ≡ is_between_words b }
 {
     b == b' ' || b == b'\t' || b == b'\r'
+}
+
+/// Whether a byte ends neither a word nor a line.
+pub(crate) fn plain(b: u8) -> bool
+    ensures { result ≡ is_plain b }
+{
+    !(blank(b) || b == b'\n')
 }
 
 /// Whether a line is a comment.

@@ -1,5 +1,5 @@
 use Rattle.std.proofs.Common.{List, subst, sym}
-use Rattle.cnf_core.specs.Literal.{Literal, IsOrdered, HaveSameLiterals, VariablesUpTo}
+use Rattle.cnf_core.specs.Literal.{Literal, IsOrdered, VariablesUpTo}
 use Rattle.sat_text.proofs.ClauseSteps.{clause_small}
 use Rattle.sat_text.proofs.clauses.end_clause.Goals as goal
 

@@ -4,11 +4,11 @@ use Rattle.sat_text.specs.Words.{lines, text_words}
 use Rattle.sat_text.specs.Cnf.{clauses_of_words, Completes}
 use Rattle.sat_text.proofs.clauses.read_clauses.Given as goal
 
-abbrev pub invariant-loop-line : goal.invariant-loop-line
-invariant-loop-line l =
+abbrev pub invariant-loop-rest : goal.invariant-loop-rest
+invariant-loop-rest l =
     VariablesUpTo l.f.vars l.begun.items × (l.f.vars ≡ l.vars) × (l.number + length l.rest ≤ l.before + length l.text)
     × ((last : ℕ) → Completes last l.f l.left l.begun.items (text_words (l.number + 1) (lines l.rest)) (clauses_of_words last l.vars l.count [] (text_words (l.before + 1) (lines l.text))))
     × (l.f.from_new ≡ false)
 
-abbrev pub decreases-loop-line : goal.decreases-loop-line
-decreases-loop-line l = length l.rest
+abbrev pub decreases-loop-rest : goal.decreases-loop-rest
+decreases-loop-rest l = length l.rest
