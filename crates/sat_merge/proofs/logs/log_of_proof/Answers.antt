@@ -24,7 +24,7 @@ verified c = subst (λ (rows : List Row). verdict_of c.args.formula.now.clauses 
 pub loop-row-init : goal.loop-row-init
 loop-row-init c =
     read_none c.args.formula.now.clauses c.in_ok-ids.ids.items c.args.begun c.clauses-clauses.ensures.clauses
-    (c.in_ok-ids.ensures ∙ ap (λ (cs : List (List Literal)). first_ids (length cs)) c.clauses-clauses.ensures.value) c.requires.begun
+    (c.in_ok-ids.ensures ∙ ap first_ids c.len.ensures ∙ ap (λ (cs : List (List Literal)). first_ids (length cs)) c.clauses-clauses.ensures.value) c.requires.begun
 
 pub places_of-requires : goal.places_of-requires
 places_of-requires c = subst Ascend (sym c.deref.ensures.value) c.loop-row.invariant.ascend
