@@ -108,5 +108,5 @@ count_set clauses trail marks v (suc n) grounded within =
 
 -- so it is counted by one
 pub counts_one : (clauses : List (List Literal)) (trail : List Entry) (old now : List Bool) (v before most : ℕ) → IsGrounded clauses trail → CountsMarks (literals trail) old now before most → CountsMarks (literals trail) old (set now v true) before (most + 1)
-counts_one clauses trail old now v before most grounded counts upto within few =
-    omega (arith, counts upto within few, count_set clauses trail now v upto grounded within)
+counts_one clauses trail old now v before most grounded counts upto within =
+    omega (arith, counts upto within, count_set clauses trail now v upto grounded within)

@@ -7,3 +7,4 @@ pub mod Continued
 pub mod Counting
 pub mod GoingBack
 pub mod Known
+pub mod Missed

@@ -50,7 +50,7 @@ traced_conflict clauses trail old new n there falsified ordered none marks = rec
 }
 
 -- what is among the first i + 1 is among the first i, or the one at i
-front_cases : (trail : List Literal) (i : ℕ) (l m : Literal) → i < length trail → l ≡ get_or trail i l → Contains (take (i + 1) trail) m → Contains (take i trail) m ⊎ (l ≡ m)
+pub front_cases : (trail : List Literal) (i : ℕ) (l m : Literal) → i < length trail → l ≡ get_or trail i l → Contains (take (i + 1) trail) m → Contains (take i trail) m ⊎ (l ≡ m)
 front_cases trail i l m within is found =
     Contains-push_cases (take i trail) l m
     (subst (λ (ls : List Literal). Contains ls m) (take_more trail i l within ∙ ap (λ (x : Literal). take i trail ++ x ∷ []) (sym is)) found)

@@ -1,5 +1,5 @@
 -- What a falsified clause is traced to.
-use Rattle.std.specs.Prelude.{◌≡◌, ◌≢◌, ◌⊎◌, ℕ, ◌<◌, ◌≤◌, Bool, true, false, IsSome, None, List, [], length, map, take, reverse, count_by, slice_index_or, All, Contains}
+use Rattle.std.specs.Prelude.{◌≡◌, ◌≢◌, ◌⊎◌, ℕ, ◌+◌, ◌<◌, ◌≤◌, Bool, true, false, IsSome, None, List, [], length, map, take, reverse, count_by, slice_index_or, All, Contains}
 use Rattle.std.specs.List.{AllByRecursion}
 use Rattle.cnf_core.specs.Literal.{Literal, negation, IsOrdered}
 use Rattle.cnf_core.specs.declared.lit.TheConstants.{MOST_VARIABLE}
@@ -114,11 +114,20 @@ pub record IsExplained (clauses : List (List Literal)) (lits : List Literal) (hi
 abbrev pub count_marked : List Literal → List Bool → ℕ → ℕ
 count_marked trail marks upto = count_by (λ l. is_marked marks l.var) (take upto trail)
 
--- Where of a trail's first literals at most so many were marked before, at most so many are now.
+-- of a trail's first literals at most as many more are marked as one number is greater than another
 abbrev pub CountsMarks : List Literal → List Bool → List Bool → ℕ → ℕ → Type 0
-CountsMarks trail old new before now =
-    (upto : ℕ) → upto ≤ length trail
-    → count_marked trail old upto ≤ before → count_marked trail new upto ≤ now
+CountsMarks trail old new before now = (upto : ℕ) → upto ≤ length trail → count_marked trail new upto + before ≤ count_marked trail old upto + now
+
+-- the literal is false where these are true, and its variable is marked
+pub record IsMarkedFalse (trues : List Literal) (marks : List Bool) (l : Literal) : Type 0 where
+  pub is_false : Contains trues (negation l)
+  pub marked : is_marked marks l.var ≡ true
+
+-- the new list has the literals of the old one and the negations of the marked ones of these, and no other
+pub record KeepsMarked (trues : List Literal) (marks : List Bool) (old new : List Literal) : Type 0 where
+  pub stays : (l : Literal) → Contains old l → Contains new l
+  pub only : (l : Literal) → Contains new l → Contains old l ⊎ IsMarkedFalse trues marks l
+  pub each : (l : Literal) → Contains trues l → is_marked marks l.var ≡ true → Contains new (negation l)
 
 -- each entry of this variable is of the level or a higher one
 abbrev pub IsFrom : List Entry → ℕ → ℕ → Type 0

@@ -7,7 +7,7 @@ ghost use Rattle.sat_state.specs.Trail.{level_of, IsOpenBelow};
 ghost use Rattle.sat_search.specs.Analysis.{IsKnown, AreInRange};
 
 use crate::levels::{go_back, second_level};
-use crate::order::Order;
+use crate::search::Tools;
 use cnf_core::{Clause, Event, Log, MOST_VARIABLE};
 use ep_base::Memory;
 use sat_state::State;
@@ -82,7 +82,7 @@ pub fn state_of(alloc: Global, log: &Log) -> Result<(State, u64), Memory>
 /// that the clause leads back to, so that a search goes on from there.
 pub fn give(
     state: &mut State,
-    order: &mut Order,
+    tools: &mut Tools,
     vars: u64,
     clause: Clause,
     log: &mut Log,
@@ -95,7 +95,7 @@ pub fn give(
 {
     let copy = clause.copied()?;
     let level = second_level(state, &clause);
-    go_back(state, order, level);
+    go_back(state, tools, level);
     let most = add(state, vars, clause)?;
     log.given(copy)?;
     Ok(most)

@@ -4,12 +4,13 @@ ghost use Rattle.std.specs.Prelude.{◌≡◌, ◌⊎◌, ℕ, ◌+◌, ◌<◌,
 ghost use Rattle.std.specs.Option.{option_map, option_map_or, ForSome};
 ghost use Rattle.cnf_core.specs.Literal.{Literal, negation, IsOrdered};
 ghost use Rattle.sat_state.specs.Trail.{literals, trail_value, entry_of, NamesFalsified};
-ghost use Rattle.sat_search.specs.Analysis.{IsKnown, is_marked, MarksClause, IsTraced, IsDecisionAt, IsUnmarkedBetween, IsCut, KeepsMore, HasLast, IsExplained, count_marked, CountsMarks};
+ghost use Rattle.sat_search.specs.Analysis.{IsKnown, is_marked, MarksClause, IsTraced, IsDecisionAt, IsUnmarkedBetween, IsCut, KeepsMore, KeepsMarked, HasLast, IsExplained, count_marked, CountsMarks};
 
 use crate::levels::level_in;
 use crate::marks::Marks;
 use crate::minimal::{Seen, reason_of, removal};
 use crate::order::Order;
+use crate::places::Places;
 use cnf_core::Lit;
 use ep_base::Memory;
 use sat_state::{ShortLit, State};
@@ -24,6 +25,7 @@ pub struct Analysis {
     pending: u64,
     last: u64,
     seen: Seen,
+    places: Places,
 }
 
 impl Analysis {
@@ -35,12 +37,18 @@ impl Analysis {
             pending: 0,
             last: 0,
             seen: Seen::new(alloc),
+            places: Places::new(alloc),
         }
+    }
+
+    /// Keeps in mind that so many literals of the trail are left.
+    pub fn forget(&mut self, left: usize) {
+        self.places.forget(left);
     }
 }
 
 // Begins with a conflict over the variables up to this number.
-fn begin(analysis: &mut Analysis, vars: u64) -> Result<(), Memory>
+fn begin(state: &State, analysis: &mut Analysis, vars: u64) -> Result<(), Memory>
     ensures room { OnOk result (vars < length analysis.new.marks) }
     ensures unmarked { OnOk result ((v : ℕ) → is_marked analysis.new.marks v ≡ false) }
 {
@@ -49,6 +57,7 @@ fn begin(analysis: &mut Analysis, vars: u64) -> Result<(), Memory>
     analysis.met.clear();
     analysis.pending = 0;
     analysis.last = 0;
+    analysis.places.begin(vars, state.trail())?;
     analysis.seen.begin(vars)
 }
 
@@ -167,15 +176,15 @@ fn resolve_level(
     while place > 0 {
         place -= 1;
         let lit = trail[place];
-        match state.reason(lit.var()) {
-            None => {
-                return Ok(Some(Cut {
-                    place,
-                    decision: place,
-                }));
-            }
-            Some(number) => {
-                if analysis.marks.is_marked(lit.var()) {
+        if analysis.marks.is_marked(lit.var()) {
+            match state.reason(lit.var()) {
+                None => {
+                    return Ok(Some(Cut {
+                        place,
+                        decision: place,
+                    }));
+                }
+                Some(number) => {
                     if let Some(cut) = cut_at(state, &analysis.marks, place, analysis.last) {
                         return Ok(Some(cut));
                     }
@@ -189,8 +198,23 @@ fn resolve_level(
     Ok(None)
 }
 
+// Keeps the negations of the marked literals before this place.
+fn keep_marked(state: &State, marks: &Marks, from: usize, lits: &mut Vec<Lit>) -> Result<(), Memory>
+    requires { from ≤ length (literals state.now.trail) }
+    ensures { OnOk result (KeepsMarked (take from (literals state.now.trail)) marks.now lits.old.items lits.new.items) }
+{
+    let trail = state.trail();
+    for place in 0..from {
+        let found = trail[place];
+        if marks.is_marked(found.var()) {
+            lits.push(found.negated().lit())?;
+        }
+    }
+    Ok(())
+}
+
 // Goes on from the decision at this place down the trail, as long as there is something marked: it is resolved where it can be
-// left out, and else its negation is kept.
+// left out, and else its negation is kept. What the table of places misses, of which nothing is promised, is kept.
 fn keep_below(
     state: &State,
     vars: u64,
@@ -210,7 +234,7 @@ fn keep_below(
     let trail = state.trail();
     let mut place = from;
     while place > 0 && analysis.pending > 0 {
-        place -= 1;
+        place = analysis.places.next_below(analysis.met.as_slice(), place);
         let lit = trail[place];
         if analysis.marks.is_marked(lit.var()) {
             analysis.pending -= 1;
@@ -220,7 +244,10 @@ fn keep_below(
             }
         }
     }
-    Ok(())
+    if analysis.pending == 0 {
+        return Ok(());
+    }
+    keep_marked(state, &analysis.marks, from, lits)
 }
 
 // The literals that are kept from the cut on, none where there is no cut.
@@ -290,7 +317,7 @@ pub fn explain(
     ensures { IfOk result (λ found. IsExplained state.now.clauses found.lits.items found.hints.items) }
 {
     let mut hints = Vec::new(alloc);
-    begin(analysis, vars)?;
+    begin(state, analysis, vars)?;
     resolve(state, number, analysis, &mut hints)?;
     let cut = resolve_level(state, vars, analysis, &mut hints)?;
     order.name(analysis.met.as_slice());

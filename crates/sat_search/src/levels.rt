@@ -5,6 +5,7 @@ ghost use Rattle.sat_state.specs.Trail.{Entry, level_of};
 ghost use Rattle.sat_search.specs.Analysis.{IsFrom, HasTwoFrom};
 
 use crate::order::Order;
+use crate::search::Tools;
 use cnf_core::Clause;
 use sat_state::State;
 
@@ -34,39 +35,46 @@ pub fn second_level(state: &State, clause: &Clause) -> u64
     second
 }
 
+// The place of the first literal of the trail that isn't of a level below this one. Levels never fall along the trail.
+fn start_of(state: &State, level: u64) -> usize {
+    let trail = state.trail();
+    let mut low = 0usize;
+    let mut high = trail.len();
+    while low < high {
+        let middle = low + (high - low) / 2;
+        if level_in(state, trail[middle].var()) < level {
+            low = middle + 1;
+        } else {
+            high = middle;
+        }
+    }
+    low
+}
+
 // Keeps the values of the literals that are of a level above this one.
 fn release_above(state: &State, order: &mut Order, level: u64) {
-    for lit in state.trail().iter().rev() {
-        if level_in(state, lit.var()) <= level {
-            return;
-        }
-        order.release(*lit);
+    let trail = state.trail();
+    let start = start_of(state, level.saturating_add(1));
+    for place in (start..trail.len()).rev() {
+        order.release(trail[place]);
     }
 }
 
 /// Goes back to a level, if it is below the present one.
-pub fn go_back(state: &mut State, order: &mut Order, level: u64)
+pub fn go_back(state: &mut State, tools: &mut Tools, level: u64)
     ensures clauses { state.new.clauses ≡ state.old.clauses }
     ensures vars { state.new.vars ≡ state.old.vars }
     ensures trail { All (Contains state.old.trail) state.new.trail }
     ensures level { level_of state.new.trail ≤ level }
 {
-    release_above(state, order, level);
+    release_above(state, &mut tools.order, level);
     state.backtrack(level.min(state.level()));
+    tools.analysis.forget(state.trail().len());
 }
 
 /// Gives the order the literals of the levels below the last one, which were true together without a conflict.
 pub fn keep_below_conflict(state: &State, order: &mut Order) {
-    let trail = state.trail();
-    let level = state.level();
-    let mut count = trail.len();
-    for lit in trail.iter().rev() {
-        if level_in(state, lit.var()) < level {
-            break;
-        }
-        count = count.saturating_sub(1);
-    }
-    order.keep_longest(trail, count);
+    order.keep_longest(state.trail(), start_of(state, state.level()));
 }
 
 /// Gives the order all literals, which are true together without a conflict.

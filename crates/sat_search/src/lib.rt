@@ -9,6 +9,7 @@ mod marks;
 mod minimal;
 mod order;
 mod outcome;
+mod places;
 mod restarts;
 mod search;
 mod solver;

@@ -21,7 +21,7 @@ use std::alloc::Global;
 #[derive(Drop)]
 pub struct Tools {
     pub(crate) order: Order,
-    analysis: Analysis,
+    pub(crate) analysis: Analysis,
     restarts: Restarts,
 }
 
@@ -151,7 +151,7 @@ fn append(
     let copy = clause.copied()?;
     log.step(copy, hints)?;
     let level = next_level(state, &mut tools.restarts, &clause);
-    go_back(state, &mut tools.order, level);
+    go_back(state, tools, level);
     state.add(clause)?;
     Ok(())
 }

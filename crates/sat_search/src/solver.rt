@@ -75,13 +75,7 @@ impl Solver {
             return Err(SolveError::Broken);
         }
         self.broken = true;
-        self.vars = give(
-            &mut self.state,
-            &mut self.tools.order,
-            self.vars,
-            clause,
-            log,
-        )?;
+        self.vars = give(&mut self.state, &mut self.tools, self.vars, clause, log)?;
         self.broken = false;
         Ok(())
     }

@@ -14,4 +14,4 @@ pub resolve_level-requires-clause-counted : goal.resolve_level-requires-clause-c
 resolve_level-requires-clause-counted c =
     let lits = literals c.args.state.now.trail in
     let none = count_unmarked lits c.begin.new.analysis.marks (length lits) (omega arith) c.in_ok-begin.ensures.unmarked in
-    c.in_ok-resolve.ensures.counts (length lits) (omega arith) (omega (arith, none))
+    omega (arith, c.in_ok-resolve.ensures.counts (length lits) (omega arith), none)

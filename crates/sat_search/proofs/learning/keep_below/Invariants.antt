@@ -1,14 +1,14 @@
 use Rattle.std.proofs.Common.{◌<◌, ◌≤◌, length, take}
-use Rattle.sat_search.specs.Analysis.{IsTraced, KeepsMore, count_marked}
+use Rattle.sat_search.specs.Analysis.{KeepsMore}
+use Rattle.sat_search.proofs.Missed.{IsTracedBut}
 use Rattle.sat_search.proofs.learning.keep_below.Given as goal
 
--- what comes from the place on is traced, and what is marked before it is counted
+-- what comes from the place on is traced, but for what was passed over, which is counted with what is marked before it
 abbrev pub invariant-loop-place : goal.invariant-loop-place
 invariant-loop-place l = record {
   within : l.place ≤ l.from;
   room : l.vars < length l.analysis.marks;
-  traced : IsTraced l.state.clauses l.trail l.analysis.marks l.lits.items l.hints.items l.place;
-  counted : count_marked l.trail l.analysis.marks l.place ≤ l.analysis.pending;
+  traced : IsTracedBut l.state.clauses l.trail l.analysis.marks l.lits.items l.hints.items l.from l.place l.analysis.pending;
   keeps : KeepsMore (take l.from l.trail) l.fn.lits.items l.lits.items;
 }
 

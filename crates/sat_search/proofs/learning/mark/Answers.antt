@@ -9,7 +9,7 @@ pub loop-lit-init : goal.loop-lit-init
 loop-lit-init c = record {
   room = refl;
   marks = marks_none c.args.analysis.now.marks;
-  counts = λ upto within few. few;
+  counts = λ upto within. omega arith;
 }
 
 pub loop-lit-preserved : goal.loop-lit-preserved
@@ -24,7 +24,7 @@ loop-lit-preserved c =
       room = ap length set_is ∙ length-set now l.var true ∙ c.loop-lit.invariant.room;
       marks = subst (λ (m : List Bool). MarksClause c.args.analysis.now.marks m (take (i + 1) lits)) (sym set_is)
           (marks_more c.args.analysis.now.marks now lits i l c.loop-lit.invariant.marks c.loop-lit-test.true c.lit-item.is room);
-      counts = λ upto inside few. c.in_ok-meet.ensures.counts upto inside (c.loop-lit.invariant.counts upto inside few);
+      counts = λ upto inside. omega (arith, c.in_ok-meet.ensures.counts upto inside, c.loop-lit.invariant.counts upto inside);
     }
 
 pub returns-clause-marks : goal.returns-clause-marks

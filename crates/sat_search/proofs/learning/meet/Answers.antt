@@ -7,8 +7,8 @@ pub returns-then-is_marked-clause-marks : goal.returns-then-is_marked-clause-mar
 returns-then-is_marked-clause-marks c = marked_already c.args.analysis.now.marks c.args.var (sym c.is_marked.ensures ∙ c.if-is_marked.true)
 
 pub returns-clause-counts : goal.returns-clause-counts
-returns-clause-counts c = λ upto within few.
+returns-clause-counts c = λ upto within.
     let old = c.args.analysis.now in
     let more : c.in_ok-analysis.field-0 ≡ old.pending + 1 = search rules in
     rw c.mark.ensures
-    (omega (arith, more, counts_one c.args.state.now.clauses c.args.state.now.trail old.marks old.marks c.args.var old.pending old.pending c.trail-trail.ensures.grounded (λ u inside before. before) upto within few))
+    (omega (arith, more, counts_one c.args.state.now.clauses c.args.state.now.trail old.marks old.marks c.args.var old.pending old.pending c.trail-trail.ensures.grounded (λ u inside. omega arith) upto within))

@@ -21,8 +21,8 @@ returns-in-None-clause-cut c =
     subst (λ (ls : List Literal). IsTraced clauses ls marks [] c.loop-place.hints.items (p + 1)) c.trail-trail.ensures.value
     (subst (IsTraced clauses lits marks [] c.loop-place.hints.items) next c.loop-place.invariant.traced) in
     decision_cut clauses trail marks c.loop-place.hints.items p l is
-    (decision_read clauses c.args.state.now.trail lits p c.var.result l
-    c.trail-trail.ensures.grounded c.trail-trail.ensures.value (omega (arith, c.loop-place.invariant.within)) c.index-trail-place.is c.var.ensures.value c.in-None.ensures)
+    (decision_read clauses c.args.state.now.trail lits p c.var-then-is_marked.result l
+    c.trail-trail.ensures.grounded c.trail-trail.ensures.value (omega (arith, c.loop-place.invariant.within)) c.index-trail-place.is c.var-then-is_marked.ensures.value c.in-None.ensures)
     traced
 
 pub cut_at-requires-clause-free : goal.cut_at-requires-clause-free
@@ -30,8 +30,8 @@ cut_at-requires-clause-free c = λ d. free_at c.args.state.now.clauses c.args.st
 
 pub resolve-requires-clause-there : goal.resolve-requires-clause-there
 resolve-requires-clause-there c =
-    (reason_read c.args.state.now.clauses c.args.state.now.trail c.trail-trail.result.now (c.loop-place.place - 1) c.var.result c.index-trail-place.result (Some c.in-Some.number)
-    c.trail-trail.ensures.grounded c.trail-trail.ensures.value (omega (arith, c.loop-place.invariant.within)) c.index-trail-place.is c.var.ensures.value c.in-Some.ensures).0
+    (reason_read c.args.state.now.clauses c.args.state.now.trail c.trail-trail.result.now (c.loop-place.place - 1) c.var-then-is_marked.result c.index-trail-place.result (Some c.in-Some.number)
+    c.trail-trail.ensures.grounded c.trail-trail.ensures.value (omega (arith, c.loop-place.invariant.within)) c.index-trail-place.is c.var-then-is_marked.ensures.value c.in-Some.ensures).0
 
 pub loop-place-preserved-in-Continue-1 : goal.loop-place-preserved-in-Continue-1
 loop-place-preserved-in-Continue-1 c =
@@ -44,9 +44,9 @@ loop-place-preserved-in-Continue-1 c =
     let within : p < length lits = omega (arith, c.loop-place.invariant.within) in
     let next : c.loop-place.place ≡ p + 1 = omega arith in
     let reason : HasReason clauses (take p lits) l (Some c.in-Some.number) =
-    reason_read clauses c.args.state.now.trail lits p c.var.result l (Some c.in-Some.number)
-    c.trail-trail.ensures.grounded c.trail-trail.ensures.value within c.index-trail-place.is c.var.ensures.value c.in-Some.ensures in
-    let marked : is_marked old l.var ≡ true = ap (is_marked old) (sym c.var-in-Some.ensures.value) ∙ sym c.is_marked.ensures ∙ c.if-is_marked.true in
+    reason_read clauses c.args.state.now.trail lits p c.var-then-is_marked.result l (Some c.in-Some.number)
+    c.trail-trail.ensures.grounded c.trail-trail.ensures.value within c.index-trail-place.is c.var-then-is_marked.ensures.value c.in-Some.ensures in
+    let marked : is_marked old l.var ≡ true = ap (is_marked old) (sym c.var.ensures.value) ∙ sym c.is_marked.ensures ∙ c.if-is_marked.true in
     let taken : count_marked lits old p + 1 ≤ c.loop-place.analysis.pending = count_taken lits old p c.loop-place.analysis.pending l within c.index-trail-place.is marked
     (subst (λ (n : ℕ). count_marked lits old n ≤ c.loop-place.analysis.pending) next c.loop-place.invariant.counted) in
     let counts : CountsMarks lits old new c.saturating_sub-analysis.result c.resolve.new.analysis.pending =
@@ -57,7 +57,7 @@ loop-place-preserved-in-Continue-1 c =
       traced = rw c.in_ok-resolve-in-Some.ensures.hints (traced_resolve clauses lits old new [] c.loop-place.hints.items p c.in-Some.number l
           within c.index-trail-place.is reason.0 reason.1 c.in_ok-resolve-in-Some.ensures.ordered c.in_ok-resolve-in-Some.ensures.marks
           (subst (IsTraced clauses lits old [] c.loop-place.hints.items) next c.loop-place.invariant.traced));
-      counted = counts p (omega (arith, within)) (omega (arith, taken, c.saturating_sub-analysis.ensures));
+      counted = omega (arith, counts p (omega (arith, within)), taken, c.saturating_sub-analysis.ensures);
     }
 
 pub loop-place-preserved : goal.loop-place-preserved
@@ -73,7 +73,7 @@ loop-place-preserved c =
       within = omega (arith, within);
       room = c.loop-place.invariant.room;
       traced = traced_skip clauses lits marks [] c.loop-place.hints.items p l within c.index-trail-place.is
-          (ap (is_marked marks) (sym c.var-in-Some.ensures.value) ∙ sym c.is_marked.ensures ∙ c.if-is_marked.false)
+          (ap (is_marked marks) (sym c.var.ensures.value) ∙ sym c.is_marked.ensures ∙ c.if-is_marked.false)
           (subst (IsTraced clauses lits marks [] c.loop-place.hints.items) next c.loop-place.invariant.traced);
       counted = count_below lits marks p c.loop-place.place c.loop-place.analysis.pending (omega arith) c.loop-place.invariant.within c.loop-place.invariant.counted;
     }
