@@ -1,6 +1,7 @@
 //! Copies of expressions and domains.
 
 ghost use Rattle.std.specs.Prelude.{◌≡◌, IfOk, option_map};
+ghost use Rattle.ep_copies.specs.Kinds.{IsAround, IsCount, IsOfMatrix, IsPair};
 ghost use Rattle.ep_tree.specs.Views.{domain_tree, domains_of, end_of, expr_tree, expr_trees, generators_of, indices_of, ranges_of, terms_of, with_range};
 
 use ep_base::{Memory, Name};
@@ -50,20 +51,35 @@ pub fn copy_expr(alloc: Global, e: &Expr) -> Result<Expr, Memory>
             let kind = Kind::Quant(*op, names, d, part);
             Ok(Expr { place, kind })
         }
-        Kind::Literal(_, _) | Kind::Comprehension(_, _, _, _) => copy_matrix(alloc, e),
-        Kind::Read(_, _) => copy_matrix(alloc, e),
-        Kind::Gcc(_, _, _) => copy_counts(alloc, e),
-        Kind::AtLeast(_, _, _) | Kind::AtMost(_, _, _) => copy_counts(alloc, e),
-        Kind::Binary(_, _, _) | Kind::Compare(_, _, _) | Kind::Lex(_, _, _) => copy_pair(alloc, e),
-        Kind::InDomain(_, _) | Kind::InSet(_, _) | Kind::Table(_, _) => copy_pair(alloc, e),
-        _ => copy_around(alloc, e),
+        Kind::Literal(_, _) | Kind::Comprehension(_, _, _, _) | Kind::Read(_, _) => {
+            copy_matrix(alloc, e)
+        }
+        Kind::Gcc(_, _, _) | Kind::AtLeast(_, _, _) | Kind::AtMost(_, _, _) => {
+            copy_counts(alloc, e)
+        }
+        Kind::Binary(_, _, _)
+        | Kind::Compare(_, _, _)
+        | Kind::Lex(_, _, _)
+        | Kind::InDomain(_, _)
+        | Kind::InSet(_, _)
+        | Kind::Table(_, _) => copy_pair(alloc, e),
+        Kind::Group(_)
+        | Kind::Not(_)
+        | Kind::Neg(_)
+        | Kind::Abs(_)
+        | Kind::ToInt(_)
+        | Kind::Factorial(_)
+        | Kind::Flatten(_)
+        | Kind::Fold(_, _)
+        | Kind::AllDiff(_) => copy_around(alloc, e),
     }
 }
 
-/// An expression around one other. No other kind comes to it.
+/// An expression around one other.
 #[cycle(copying)]
 #[tactic(auto, unfolding(ep_tree::specs::Views::kind_tree))]
 fn copy_around(alloc: Global, e: &Expr) -> Result<Expr, Memory>
+    requires { IsAround e.now.kind }
     ensures { IfOk result (λ copy. expr_tree copy ≡ expr_tree e.now) }
 {
     let place = e.place;
@@ -113,14 +129,15 @@ fn copy_around(alloc: Global, e: &Expr) -> Result<Expr, Memory>
             let kind = Kind::AllDiff(part);
             Ok(Expr { place, kind })
         }
-        _ => Err(Memory),
+        _ => unreachable!(),
     }
 }
 
-/// An expression of two parts. No other kind comes to it.
+/// An expression of two parts.
 #[cycle(copying)]
 #[tactic(auto, unfolding(ep_tree::specs::Views::kind_tree))]
 fn copy_pair(alloc: Global, e: &Expr) -> Result<Expr, Memory>
+    requires { IsPair e.now.kind }
     ensures { IfOk result (λ copy. expr_tree copy ≡ expr_tree e.now) }
 {
     let place = e.place;
@@ -161,14 +178,15 @@ fn copy_pair(alloc: Global, e: &Expr) -> Result<Expr, Memory>
             let kind = Kind::Table(a, b);
             Ok(Expr { place, kind })
         }
-        _ => Err(Memory),
+        _ => unreachable!(),
     }
 }
 
-/// An expression that counts the parts of a list. No other kind comes to it.
+/// An expression that counts the parts of a list.
 #[cycle(copying)]
 #[tactic(auto, unfolding(ep_tree::specs::Views::kind_tree))]
 fn copy_counts(alloc: Global, e: &Expr) -> Result<Expr, Memory>
+    requires { IsCount e.now.kind }
     ensures { IfOk result (λ copy. expr_tree copy ≡ expr_tree e.now) }
 {
     let place = e.place;
@@ -194,14 +212,15 @@ fn copy_counts(alloc: Global, e: &Expr) -> Result<Expr, Memory>
             let kind = Kind::AtMost(m, counts, values);
             Ok(Expr { place, kind })
         }
-        _ => Err(Memory),
+        _ => unreachable!(),
     }
 }
 
-/// An expression that makes a matrix or reads one. No other kind comes to it.
+/// An expression that makes a matrix or reads one.
 #[cycle(copying)]
 #[tactic(auto, unfolding(ep_tree::specs::Views::kind_tree))]
 fn copy_matrix(alloc: Global, e: &Expr) -> Result<Expr, Memory>
+    requires { IsOfMatrix e.now.kind }
     ensures { IfOk result (λ copy. expr_tree copy ≡ expr_tree e.now) }
 {
     let place = e.place;
@@ -226,7 +245,7 @@ fn copy_matrix(alloc: Global, e: &Expr) -> Result<Expr, Memory>
             let kind = Kind::Read(m, indices);
             Ok(Expr { place, kind })
         }
-        _ => Err(Memory),
+        _ => unreachable!(),
     }
 }
 

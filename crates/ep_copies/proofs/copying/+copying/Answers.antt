@@ -1,4 +1,4 @@
-use Rattle.std.proofs.Common.{ap, refl, sym, ◌∙◌, arith}
+use Rattle.std.proofs.Common.{ap, inl, inr, refl, sym, ◌∙◌, arith}
 use Rattle.std.specs.Prelude.{Some, map}
 use Rattle.ep_tree.specs.Views.{domain_tree, domains_of, expr_tree, expr_trees, generators_of, indices_of, ranges_of, terms_of, with_range}
 use Rattle.ep_copies.specs.Copied.{generator_view, index_view, term_view}
@@ -203,3 +203,29 @@ copy_generators-loop-generator-preserved t c =
 pub copy_generators-returns : goal.copy_generators-returns
 copy_generators-returns t c =
     gathers_same generators_of generator_view generators_gather c.loop-generator.copies.items c.args.gens.now c.loop-generator.generator-index (omega (arith, c.loop-generator-test.false)) c.loop-generator.invariant
+
+-- ---- kinds that come to a function, and no other
+
+pub copy_expr-copy_matrix-requires : goal.copy_expr-copy_matrix-requires
+copy_expr-copy_matrix-requires t c = (omega (arith, c.decreases), c.in-Literal.is)
+
+pub copy_expr-copy_counts-requires : goal.copy_expr-copy_counts-requires
+copy_expr-copy_counts-requires t c = (omega (arith, c.decreases), c.in-Gcc.is)
+
+pub copy_expr-copy_pair-requires : goal.copy_expr-copy_pair-requires
+copy_expr-copy_pair-requires t c = (omega (arith, c.decreases), c.in-Binary.is)
+
+pub copy_expr-copy_around-requires : goal.copy_expr-copy_around-requires
+copy_expr-copy_around-requires t c = (omega (arith, c.decreases), c.in-Group.is)
+
+pub copy_around-unreachable-requires : goal.copy_around-unreachable-requires
+copy_around-unreachable-requires t c = elim c.requires as (λ _. ⊥) [ inl h ↦ c.in_default.not-Group h.0 h.1 | inr h ↦ elim h as (λ _. ⊥) [ inl k ↦ c.in_default.not-Not k.0 k.1 | inr k ↦ elim k as (λ _. ⊥) [ inl l ↦ c.in_default.not-Neg l.0 l.1 | inr l ↦ elim l as (λ _. ⊥) [ inl m ↦ c.in_default.not-Abs m.0 m.1 | inr m ↦ elim m as (λ _. ⊥) [ inl n ↦ c.in_default.not-ToInt n.0 n.1 | inr n ↦ elim n as (λ _. ⊥) [ inl o ↦ c.in_default.not-Factorial o.0 o.1 | inr o ↦ elim o as (λ _. ⊥) [ inl p ↦ c.in_default.not-Flatten p.0 p.1 | inr p ↦ elim p as (λ _. ⊥) [ inl q ↦ c.in_default.not-Fold q.0 q.1 q.2 | inr q ↦ c.in_default.not-AllDiff q.0 q.1 ] ] ] ] ] ] ] ]
+
+pub copy_pair-unreachable-requires : goal.copy_pair-unreachable-requires
+copy_pair-unreachable-requires t c = elim c.requires as (λ _. ⊥) [ inl h ↦ c.in_default.not-Binary h.0 h.1 h.2 h.3 | inr h ↦ elim h as (λ _. ⊥) [ inl k ↦ c.in_default.not-Compare k.0 k.1 k.2 k.3 | inr k ↦ elim k as (λ _. ⊥) [ inl l ↦ c.in_default.not-Lex l.0 l.1 l.2 l.3 | inr l ↦ elim l as (λ _. ⊥) [ inl m ↦ c.in_default.not-InDomain m.0 m.1 m.2 | inr m ↦ elim m as (λ _. ⊥) [ inl n ↦ c.in_default.not-InSet n.0 n.1 n.2 | inr n ↦ c.in_default.not-Table n.0 n.1 n.2 ] ] ] ] ]
+
+pub copy_counts-unreachable-requires : goal.copy_counts-unreachable-requires
+copy_counts-unreachable-requires t c = elim c.requires as (λ _. ⊥) [ inl h ↦ c.in_default.not-Gcc h.0 h.1 h.2 h.3 | inr h ↦ elim h as (λ _. ⊥) [ inl k ↦ c.in_default.not-AtLeast k.0 k.1 k.2 k.3 | inr k ↦ c.in_default.not-AtMost k.0 k.1 k.2 k.3 ] ]
+
+pub copy_matrix-unreachable-requires : goal.copy_matrix-unreachable-requires
+copy_matrix-unreachable-requires t c = elim c.requires as (λ _. ⊥) [ inl h ↦ c.in_default.not-Literal h.0 h.1 h.2 | inr h ↦ elim h as (λ _. ⊥) [ inl k ↦ c.in_default.not-Comprehension k.0 k.1 k.2 k.3 k.4 | inr k ↦ c.in_default.not-Read k.0 k.1 k.2 ] ]
