@@ -6,3 +6,4 @@ pub mod Declaring
 pub mod Reading
 pub mod First
 pub mod Again
+pub mod Kinds

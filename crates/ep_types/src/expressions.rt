@@ -5,6 +5,7 @@ ghost use Rattle.ep_tree.specs.Views.{domain_tree, domains_of, end_of, expr_tree
 ghost use Rattle.ep_types_rules.specs.Concluding.{SaysOfCheck};
 ghost use Rattle.ep_types.specs.Checking.{check, check_all, check_domain, check_domains, check_end, check_generators, check_index, check_indices, check_readings, check_terms};
 ghost use Rattle.ep_types.specs.Hiding.{Hides};
+ghost use Rattle.ep_types.specs.Kinds.{HasDomain, HasList, HasOnePart, HasThreeParts, HasTwoParts};
 ghost use Rattle.ep_types.specs.Meanings.{IsSame, names_context};
 ghost use Rattle.ep_types.specs.Reading.{check_bounds, check_read, range_bounds, stated_index};
 
@@ -64,6 +65,7 @@ fn with_one_part<'a>(
     decisions: bool,
     e: &'a Expr,
 ) -> Result<ValueType, StaticError>
+    requires { HasOnePart e.now.kind }
     ensures same { OnOk result (IsSame names.old names.new) }
     ensures says { SaysOfCheck (λ t. t) result (check (names_context names.old) decisions (expr_tree e.now)) }
 {
@@ -97,8 +99,7 @@ fn with_one_part<'a>(
             let ty = type_of(names, decisions, m)?;
             rules::gives(place, ValueType::Bool, rules::is_matrix(ty))
         }
-        // No other kind comes here.
-        _ => Err(StaticError::Memory),
+        _ => unreachable!(),
     }
 }
 
@@ -110,6 +111,7 @@ fn with_two_parts<'a>(
     decisions: bool,
     e: &'a Expr,
 ) -> Result<ValueType, StaticError>
+    requires { HasTwoParts e.now.kind }
     ensures same { OnOk result (IsSame names.old names.new) }
     ensures says { SaysOfCheck (λ t. t) result (check (names_context names.old) decisions (expr_tree e.now)) }
 {
@@ -143,8 +145,7 @@ fn with_two_parts<'a>(
             let holds = rules::has_dimensions(1, one) && rules::has_dimensions(2, other);
             rules::gives(place, ValueType::Bool, holds)
         }
-        // No other kind comes here.
-        _ => Err(StaticError::Memory),
+        _ => unreachable!(),
     }
 }
 
@@ -156,6 +157,7 @@ fn with_three_parts<'a>(
     decisions: bool,
     e: &'a Expr,
 ) -> Result<ValueType, StaticError>
+    requires { HasThreeParts e.now.kind }
     ensures same { OnOk result (IsSame names.old names.new) }
     ensures says { SaysOfCheck (λ t. t) result (check (names_context names.old) decisions (expr_tree e.now)) }
 {
@@ -173,8 +175,7 @@ fn with_three_parts<'a>(
             let third = type_of(names, false, values)?;
             rules::counting(place, one, other, third)
         }
-        // No other kind comes here.
-        _ => Err(StaticError::Memory),
+        _ => unreachable!(),
     }
 }
 
@@ -186,6 +187,7 @@ fn with_list<'a>(
     decisions: bool,
     e: &'a Expr,
 ) -> Result<ValueType, StaticError>
+    requires { HasList e.now.kind }
     ensures same { OnOk result (IsSame names.old names.new) }
     ensures says { SaysOfCheck (λ t. t) result (check (names_context names.old) decisions (expr_tree e.now)) }
 {
@@ -212,8 +214,7 @@ fn with_list<'a>(
             let ty = type_of(names, decisions, m)?;
             read_type(names, decisions, place, ty, indices)
         }
-        // No other kind comes here.
-        _ => Err(StaticError::Memory),
+        _ => unreachable!(),
     }
 }
 
@@ -225,6 +226,7 @@ fn with_domain<'a>(
     decisions: bool,
     e: &'a Expr,
 ) -> Result<ValueType, StaticError>
+    requires { HasDomain e.now.kind }
     ensures same { OnOk result (IsSame names.old names.new) }
     ensures says { SaysOfCheck (λ t. t) result (check (names_context names.old) decisions (expr_tree e.now)) }
 {
@@ -251,8 +253,7 @@ fn with_domain<'a>(
             names.show(depth);
             rules::comprehension(place, index, scalar, &truths, ty)
         }
-        // No other kind comes here.
-        _ => Err(StaticError::Memory),
+        _ => unreachable!(),
     }
 }
 

@@ -12,7 +12,7 @@ ghost use Rattle.ep_types.specs.Checking.{check_domain_name, check_name, check_v
 ghost use Rattle.ep_types.specs.Meanings.{behind_names, names_context, known_by, meaning_of, or_else};
 ghost use Rattle.ep_types.specs.Hiding.{Hides};
 
-use ep_base::{Name, Place};
+use ep_base::{Memory, Name, Place};
 use ep_tree::ValueType;
 use ep_types_rules::{StaticError, is_boolean};
 use indexmap::IndexMap;
@@ -158,7 +158,7 @@ impl<'a> Names<'a> {
     {
         match Name::new(self.alloc, name.text()) {
             Ok(name) => StaticError::UnknownName(place, name),
-            Err(_) => StaticError::Memory,
+            Err(Memory) => StaticError::Memory,
         }
     }
 

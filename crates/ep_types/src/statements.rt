@@ -14,7 +14,7 @@ ghost use Rattle.ep_types.specs.Meanings.{known_by, meaning_of};
 
 use crate::expressions::{domain_type, type_of};
 use crate::names::{Meaning, Names};
-use ep_base::{Name, Place};
+use ep_base::{Memory, Name, Place};
 use ep_tree::{Declared, Domain, Expr, Statement, StatementKind, ValueType};
 use ep_types_rules as rules;
 use ep_types_rules::StaticError;
@@ -28,7 +28,7 @@ fn declared_before(alloc: Global, place: Place, name: &Name) -> StaticError
 {
     match Name::new(alloc, name.text()) {
         Ok(name) => StaticError::Redeclared(place, name),
-        Err(_) => StaticError::Memory,
+        Err(Memory) => StaticError::Memory,
     }
 }
 
@@ -39,7 +39,7 @@ fn not_declared(alloc: Global, place: Place, name: &Name) -> StaticError
 {
     match Name::new(alloc, name.text()) {
         Ok(name) => StaticError::UnknownName(place, name),
-        Err(_) => StaticError::Memory,
+        Err(Memory) => StaticError::Memory,
     }
 }
 

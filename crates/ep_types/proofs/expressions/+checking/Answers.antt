@@ -1,4 +1,4 @@
-use Rattle.std.proofs.Common.{◌+◌, false, not, ◌&&◌, ◌||◌, List, [], ◌∷◌, drop, Ok, refl, sym, ap, subst, ◌∙◌}
+use Rattle.std.proofs.Common.{arith, inl, inr, ◌+◌, false, not, ◌&&◌, ◌||◌, List, [], ◌∷◌, drop, Ok, refl, sym, ap, subst, ◌∙◌}
 use Rattle.std.proofs.lemmas.Result.{err_from_is_err_and}
 use Rattle.std.specs.List.{list_all}
 use Rattle.ep_tree.specs.Types.{gives, is_boolean, is_integer, list_type, matrix_type, quantified_name, read_type, slice_count, typed}
@@ -20,26 +20,6 @@ use Rattle.ep_types.specs.Reading.{check_bounds, check_read, range_bounds, state
 use Rattle.ep_tree.specs.Faults.{has_open_range, open_domain}
 use Rattle.ep_types.specs.Meanings.{names_context}
 use Rattle.ep_types.proofs.expressions.+checking.Goals as goal
-
-pub with_one_part-returns-in_default-clause-says : goal.with_one_part-returns-in_default-clause-says
-with_one_part-returns-in_default-clause-says t c =
-    memory_says _
-
-pub with_two_parts-returns-in_default-clause-says : goal.with_two_parts-returns-in_default-clause-says
-with_two_parts-returns-in_default-clause-says t c =
-    memory_says _
-
-pub with_three_parts-returns-in_default-clause-says : goal.with_three_parts-returns-in_default-clause-says
-with_three_parts-returns-in_default-clause-says t c =
-    memory_says _
-
-pub with_list-returns-in_default-clause-says : goal.with_list-returns-in_default-clause-says
-with_list-returns-in_default-clause-says t c =
-    memory_says _
-
-pub with_domain-returns-in_default-clause-says : goal.with_domain-returns-in_default-clause-says
-with_domain-returns-in_default-clause-says t c =
-    memory_says _
 
 pub types_of-loop-part-init : goal.types_of-loop-part-init
 types_of-loop-part-init t c =
@@ -577,3 +557,35 @@ bounds_are_integer-returns-in_ok-to-in-Span-clause-says t c =
     (then_is _ _ _ _ (span_bounds (names_context c.args.names.now) c.args.range.now c.in-Span.low c.in-Span.high c.in-Span.is) c.in_ok-from-in-Span.ensures.says)
     (ok_at (λ z. check_end z (end_of c.in-Span.high)) (names_context c.args.names.now) _ c.in_ok-to-in-Span.to c.in_ok-from-in-Span.ensures.same.context c.in_ok-to-in-Span.ensures.says)
     ∙ ap Ok (sym c.are_integer.ensures)
+
+-- ---- kinds that come to a function, and no other
+
+pub type_of-with_one_part-requires : goal.type_of-with_one_part-requires
+type_of-with_one_part-requires t c = (omega (arith, c.decreases), c.in-Not.is)
+
+pub type_of-with_two_parts-requires : goal.type_of-with_two_parts-requires
+type_of-with_two_parts-requires t c = (omega (arith, c.decreases), c.in-Binary.is)
+
+pub type_of-with_three_parts-requires : goal.type_of-with_three_parts-requires
+type_of-with_three_parts-requires t c = (omega (arith, c.decreases), c.in-Gcc.is)
+
+pub type_of-with_list-requires : goal.type_of-with_list-requires
+type_of-with_list-requires t c = (omega (arith, c.decreases), c.in-Add.is)
+
+pub type_of-with_domain-requires : goal.type_of-with_domain-requires
+type_of-with_domain-requires t c = (omega (arith, c.decreases), c.in-InDomain.is)
+
+pub with_one_part-unreachable-requires : goal.with_one_part-unreachable-requires
+with_one_part-unreachable-requires t c = elim c.requires as (λ _. ⊥) [ inl h ↦ c.in_default.not-Not h.0 h.1 | inr h ↦ elim h as (λ _. ⊥) [ inl k ↦ c.in_default.not-Neg k.0 k.1 | inr k ↦ elim k as (λ _. ⊥) [ inl l ↦ c.in_default.not-Abs l.0 l.1 | inr l ↦ elim l as (λ _. ⊥) [ inl m ↦ c.in_default.not-ToInt m.0 m.1 | inr m ↦ elim m as (λ _. ⊥) [ inl n ↦ c.in_default.not-Factorial n.0 n.1 | inr n ↦ elim n as (λ _. ⊥) [ inl o ↦ c.in_default.not-Flatten o.0 o.1 | inr o ↦ elim o as (λ _. ⊥) [ inl p ↦ c.in_default.not-Fold p.0 p.1 p.2 | inr p ↦ c.in_default.not-AllDiff p.0 p.1 ] ] ] ] ] ] ]
+
+pub with_two_parts-unreachable-requires : goal.with_two_parts-unreachable-requires
+with_two_parts-unreachable-requires t c = elim c.requires as (λ _. ⊥) [ inl h ↦ c.in_default.not-Binary h.0 h.1 h.2 h.3 | inr h ↦ elim h as (λ _. ⊥) [ inl k ↦ c.in_default.not-Compare k.0 k.1 k.2 k.3 | inr k ↦ elim k as (λ _. ⊥) [ inl l ↦ c.in_default.not-Lex l.0 l.1 l.2 l.3 | inr l ↦ elim l as (λ _. ⊥) [ inl m ↦ c.in_default.not-InSet m.0 m.1 m.2 | inr m ↦ c.in_default.not-Table m.0 m.1 m.2 ] ] ] ]
+
+pub with_three_parts-unreachable-requires : goal.with_three_parts-unreachable-requires
+with_three_parts-unreachable-requires t c = elim c.requires as (λ _. ⊥) [ inl h ↦ c.in_default.not-Gcc h.0 h.1 h.2 h.3 | inr h ↦ elim h as (λ _. ⊥) [ inl k ↦ c.in_default.not-AtLeast k.0 k.1 k.2 k.3 | inr k ↦ c.in_default.not-AtMost k.0 k.1 k.2 k.3 ] ]
+
+pub with_list-unreachable-requires : goal.with_list-unreachable-requires
+with_list-unreachable-requires t c = elim c.requires as (λ _. ⊥) [ inl h ↦ c.in_default.not-Add h.0 h.1 | inr h ↦ elim h as (λ _. ⊥) [ inl k ↦ c.in_default.not-And k.0 k.1 | inr k ↦ elim k as (λ _. ⊥) [ inl l ↦ c.in_default.not-Or l.0 l.1 | inr l ↦ elim l as (λ _. ⊥) [ inl m ↦ c.in_default.not-Literal m.0 m.1 m.2 | inr m ↦ c.in_default.not-Read m.0 m.1 m.2 ] ] ] ]
+
+pub with_domain-unreachable-requires : goal.with_domain-unreachable-requires
+with_domain-unreachable-requires t c = elim c.requires as (λ _. ⊥) [ inl h ↦ c.in_default.not-InDomain h.0 h.1 h.2 | inr h ↦ elim h as (λ _. ⊥) [ inl k ↦ c.in_default.not-Quant k.0 k.1 k.2 k.3 k.4 | inr k ↦ c.in_default.not-Comprehension k.0 k.1 k.2 k.3 k.4 ] ]
