@@ -2,3 +2,4 @@ pub mod Chains
 pub mod Links
 pub mod RowLemmas
 pub mod Supports
+pub mod OtherKinds

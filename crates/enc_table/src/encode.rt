@@ -31,6 +31,6 @@ pub fn encode_con(
     match &con.kind {
         ConKind::Table(vars, rows) => encode_table(alloc, layout, f, con.truth, vars, rows),
         ConKind::Lex(op, xs, ys) => encode_lex(alloc, layout, f, con.truth, *op, xs, ys),
-        _ => Err(Memory),
+        _ => unreachable!(),
     }
 }

@@ -6,6 +6,7 @@ use Rattle.ep_flat.specs.FlatViews.{plain_con, plain_kind}
 use Rattle.enc_atoms.proofs.Naming.{keeps_con, kind_named, truth_named}
 use Rattle.enc_atoms.specs.Steps.{AreOf}
 use Rattle.enc_table.proofs.Links.{both_of}
+use Rattle.enc_table.proofs.OtherKinds.{other_kind}
 use Rattle.enc_table.proofs.encode.encode_con.Goals as goal
 
 pub encode_table-requires-clause-truth : goal.encode_table-requires-clause-truth
@@ -63,3 +64,6 @@ returns-in-Lex c =
           (keeps_con c.args.layout.now c.args.f.now c.encode_lex.new.layout c.encode_lex.new.f (plain_con c.args.con.now) (λ values. lex_holds op (numbers_of_vars values xs) (numbers_of_vars values ys)) says)
           c.encode_lex.ensures;
     }
+
+pub unreachable-requires : goal.unreachable-requires
+unreachable-requires c = other_kind c.args.con.now.kind c.requires.family c.in_default.not-Table c.in_default.not-Lex
