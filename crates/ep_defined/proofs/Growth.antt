@@ -1,5 +1,5 @@
 -- Arenas that grow, and terms that stand in them.
-use Rattle.std.proofs.Common.{◌≡◌, ℕ, ◌+◌, ◌<◌, ◌≤◌, ℤ, false, inl, inr, List, [], ◌∷◌, ◌++◌, length, Option, Some, None, refl, sym, ap, subst, ◌∙◌, arith, get_or, map}
+use Rattle.std.proofs.Common.{◌≡◌, ℕ, ◌+◌, ◌-◌, ◌^◌, ◌<◌, ◌≤◌, ℤ, false, inl, inr, List, [], ◌∷◌, ◌++◌, length, Option, Some, None, refl, sym, ap, subst, ◌∙◌, arith, get_or, map}
 use Rattle.std.specs.Prelude.{Err, IfOk, IfSome, Ok, OnOk, Result, option_to_list}
 use Rattle.ep_base.specs.declared.operators.CompareOp.{CompareOp}
 use Rattle.ep_defined.specs.declared.kinds.Kind.{Kind}
@@ -7,7 +7,7 @@ use Rattle.std.specs.List.{All}
 use Rattle.std.proofs.lemmas.List.{append-nil, append_assoc, length-append, length-map}
 use Rattle.std.proofs.lemmas.Option.{slice_get_within}
 use Rattle.std.proofs.lemmas.List.Elements.{All-append, All-cons, All-get_or, All-head, All-map, All-nil, All-tail, All-weaker}
-use Rattle.ep_defined.specs.Growing.{Grows, IsNodeAt, IsSafeOver}
+use Rattle.ep_defined.specs.Growing.{Grows, HasRoom, IsNodeAt, IsSafeOver}
 use Rattle.ep_defined.specs.Images.{IsConjunction, IsDivisorTest, IsImage, IsImageBy, IsKeyTest, StandsIn, guards_in, image_at, image_kind, made_safe, nowhere, over_totals, total_at}
 use Rattle.ep_defined.specs.declared.images.Image.{Image}
 use Rattle.ep_defined.proofs.KindSteps.{safe_parts, safe_stands, safe_whole}
@@ -52,6 +52,19 @@ grows_then asker a b c old mid new fits g h = record {
 
 pub grows_at_most : (asker : GroundNode) (a b : ℕ) (old new : List GroundNode) → a ≤ b → Grows asker a old new → Grows asker b old new
 grows_at_most asker a b old new fits g = record { more = g.more; is = g.is; few = omega (arith, g.few); before = g.before; safe = g.safe }
+
+-- where there is room for one node more not all numbers are taken
+pub never_full : (n : ℕ) → n + 1 < 2 ^ 32 → n ≡ 2 ^ 32 - 1 → ⊥
+never_full n room full = omega (arith, room, full)
+
+pub room_in_none : (nodes : List GroundNode) → nodes ≡ [] → HasRoom 1 nodes
+room_in_none nodes e = omega (arith, ap length e)
+
+pub room_less : (a b : ℕ) (nodes : List GroundNode) → a ≤ b → HasRoom b nodes → HasRoom a nodes
+room_less a b nodes less room = omega (arith, less, room)
+
+pub room_after : (asker : GroundNode) (a b c : ℕ) (old new : List GroundNode) → a + b ≤ c → Grows asker a old new → HasRoom c old → HasRoom b new
+room_after asker a b c old new fits g room = omega (arith, fits, room, g.few, ap length g.is, length-append old g.more)
 
 -- the node of a term stays
 pub is_later : (asker : GroundNode) (count : ℕ) (old new : List GroundNode) (t : ℕ) (node : GroundNode) → Grows asker count old new → IsNodeAt old t node → IsNodeAt new t node
@@ -107,6 +120,13 @@ unfolding IsConjunction
 conjunction_more nodes [] t low e = absurd (omega (arith, low))
 conjunction_more nodes (g ∷ []) t low e = absurd (omega (arith, low))
 conjunction_more nodes (g ∷ k ∷ gs) t low e = e
+
+-- conditions with a last one have a term
+pub conjunction_there : (nodes : List GroundNode) (gs : List ℕ) (last : ℕ) → IsConjunction nodes (gs ++ last ∷ []) None → ⊥
+unfolding IsConjunction
+conjunction_there nodes [] last is = is
+conjunction_there nodes (g ∷ []) last is = is
+conjunction_there nodes (g ∷ k ∷ gs) last is = is
 
 -- a node that is safe over anything
 pub all_of_safe : (gs : List ℕ) (cells : ℕ) → IsSafeOver cells (all_of gs)

@@ -10,3 +10,4 @@ pub mod AllImages
 pub mod Removing
 pub mod Removed
 pub mod Ending
+pub mod SafeKinds

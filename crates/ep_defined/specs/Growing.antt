@@ -1,9 +1,13 @@
 -- What more nodes an arena has.
-use Rattle.std.specs.Prelude.{◌≡◌, ℕ, ◌≤◌, false, List, ◌++◌, length, Some, slice_get}
+use Rattle.std.specs.Prelude.{◌≡◌, ℕ, ◌+◌, ◌<◌, ◌≤◌, ◌^◌, false, List, ◌++◌, length, Some, slice_get}
 use Rattle.std.specs.List.{All}
 use Rattle.ep_ground.specs.Grounds.{StandsOver}
 use Rattle.ep_ground.specs.Nodes.{GroundNode, is_partial}
 use Rattle.ep_ground.specs.Terms.{PartsStandBefore}
+
+-- so many nodes more have numbers
+abbrev pub HasRoom : ℕ → List GroundNode → Type 0
+HasRoom count nodes = length nodes + count < 2 ^ 32
 
 -- the term has this node
 abbrev pub IsNodeAt : List GroundNode → ℕ → GroundNode → Type 0

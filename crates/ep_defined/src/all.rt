@@ -1,7 +1,8 @@
 //! What stands for each term of a ground.
 
-ghost use Rattle.std.specs.Prelude.{◌≡◌, [], length, IfOk};
+ghost use Rattle.std.specs.Prelude.{◌≡◌, ◌≤◌, [], length, IfOk};
 ghost use Rattle.ep_defined.specs.Translations.{Translates};
+ghost use Rattle.ep_defined.specs.declared.remove.TheConstants.{MOST_NODES};
 ghost use Rattle.ep_ground.specs.Grounds.{IsWellFormed};
 ghost use Rattle.ep_ground.specs.GroundViews.{plain_ground};
 
@@ -18,6 +19,7 @@ pub fn images_of(
     nought: Term,
     g: &Ground,
 ) -> Result<Vec<Image>, Memory>
+    requires nodes { length g.now.arena ≤ MOST_NODES }
     requires well_formed { IsWellFormed (plain_ground g.now) }
     requires start { Translates g.now.cells.items g.now.arena arena.old nought [] }
     ensures stand { IfOk result (λ images.

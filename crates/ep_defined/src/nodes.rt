@@ -2,7 +2,8 @@
 
 ghost use Rattle.std.specs.Prelude.{◌≡◌, ◌<◌, ◌++◌, ◌∷◌, [], length, map, IfOk, OnOk};
 ghost use Rattle.std.specs.List.{All};
-ghost use Rattle.ep_defined.specs.Images.{guards_in, over_totals, total_at};
+ghost use Rattle.ep_defined.specs.Images.{guards_in, image_kind, over_totals, total_at};
+ghost use Rattle.ep_defined.specs.declared.kinds.Kind.{Kind};
 ghost use Rattle.ep_ground.specs.Nodes.{parts_of, safe_pick};
 ghost use Rattle.ep_ground.specs.NodeViews.{plain_node};
 
@@ -69,7 +70,8 @@ fn safe_pick(
 /// `safe_node` of a truth value.
 #[tactic(auto, using(crate::proofs::Listing::first_below, crate::proofs::Listing::second_below, crate::proofs::Listing::rest_below, crate::proofs::Listing::left_below, crate::proofs::Listing::right_below), unfolding(ep_ground::specs::SameTrees::with_parts, crate::specs::Images::made_safe, ep_ground::specs::Nodes::parts_of))]
 fn safe_truth(alloc: Global, images: &[Image], node: &Node) -> Result<Node, Memory>
-    requires { All (λ t. t < length images.now) (parts_of (plain_node node.now)) }
+    requires parts { All (λ t. t < length images.now) (parts_of (plain_node node.now)) }
+    requires kind { image_kind (plain_node node.now) ≡ Kind.Truth }
     ensures { IfOk result (λ safe.
         plain_node safe ≡ over_totals images.now (plain_node node.now)) }
 {
@@ -109,7 +111,7 @@ fn safe_truth(alloc: Global, images: &[Image], node: &Node) -> Result<Node, Memo
             let copy = copy_keys(alloc, rows)?;
             Ok(Node::Table(first, copy))
         }
-        _ => Err(Memory),
+        _ => unreachable!(),
     }
 }
 

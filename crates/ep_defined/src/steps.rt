@@ -3,7 +3,7 @@
 ghost use Rattle.std.specs.Prelude.{◌≡◌, ◌<◌, ◌++◌, ◌==◌, ◌∷◌, [], ℕ, false, filter, length, map, take, IfOk, IfSome, OnOk, option_to_list};
 ghost use Rattle.std.specs.List.{All};
 ghost use Rattle.ep_base.specs.declared.operators.CompareOp.{CompareOp};
-ghost use Rattle.ep_defined.specs.Growing.{Grows, IsNodeAt, IsSafeOver};
+ghost use Rattle.ep_defined.specs.Growing.{Grows, HasRoom, IsNodeAt, IsSafeOver};
 ghost use Rattle.ep_defined.specs.Images.{IsConjunction, IsDivisorTest, IsImage, IsKeyTest, IsNothingImage, StandsIn, guards_in, made_safe, image_kind, over_totals, total_at};
 ghost use Rattle.ep_defined.specs.declared.kinds.Kind.{Kind};
 ghost use Rattle.ep_ground.specs.Grounds.{StandsOver};
@@ -14,12 +14,13 @@ use crate::images::{Image, total, totals};
 use crate::kinds::{Kind, node_kind};
 use crate::nodes::{add_guards_of, safe_node};
 use ep_base::{CompareOp, Key, Memory};
-use ep_ground::{Arena, Node, Term};
+use ep_ground::{Arena, InternError, Node, Term};
 use std::alloc::Global;
 
-/// The term of a node; want of memory, too, where there are as many nodes as there can be.
+/// The term of a node.
 pub fn taken(arena: &mut Arena, node: Node) -> Result<Term, Memory>
-    requires { All (λ part. part < length arena.old) (parts_of (plain_node node)) }
+    requires parts { All (λ part. part < length arena.old) (parts_of (plain_node node)) }
+    requires room { HasRoom 1 arena.old }
     ensures term { IfOk result (λ term. IsNodeAt arena.new term (plain_node node)) }
     ensures grows { OnOk result ((asker : GroundNode)
         → ((cells : ℕ) → StandsOver cells asker → IsSafeOver cells (plain_node node))
@@ -27,13 +28,15 @@ pub fn taken(arena: &mut Arena, node: Node) -> Result<Term, Memory>
 {
     match arena.intern(node) {
         Ok(term) => Ok(term),
-        Err(_) => Err(Memory),
+        Err(InternError::Full) => unreachable!(),
+        Err(InternError::Memory) => Err(Memory),
     }
 }
 
 /// A term that is 1 exactly where all of these are; none where there is none.
 fn conjunction(arena: &mut Arena, guards: Vec<Term>) -> Result<Option<Term>, Memory>
-    requires { All (λ g. g < length arena.old) guards.items }
+    requires guards { All (λ g. g < length arena.old) guards.items }
+    requires room { HasRoom 1 arena.old }
     ensures is { IfOk result (λ all. IsConjunction arena.new guards.items all) }
     ensures grows { OnOk result ((asker : GroundNode) → Grows asker 1 arena.old arena.new) }
 {
@@ -49,6 +52,7 @@ fn total_of(alloc: Global, arena: &mut Arena, images: &[Image], node: &Node) -> 
     requires parts { All (λ t. t < length images.now) (parts_of (plain_node node.now)) }
     requires stand { All (StandsIn arena.old) images.now }
     requires whole { is_partial (made_safe (plain_node node.now)) ≡ false }
+    requires room { HasRoom 1 arena.old }
     ensures is { IfOk result (λ total.
         IsNodeAt arena.new total (over_totals images.now (plain_node node.now))) }
     ensures grows { OnOk result (Grows (plain_node node.now) 1 arena.old arena.new) }
@@ -81,6 +85,7 @@ fn guard_of(
     requires parts { All (λ t. t < length images.now) (parts_of (plain_node node.now)) }
     requires stand { All (StandsIn arena.old) images.now }
     requires own { IfSome own (λ t. t < length arena.old) }
+    requires room { HasRoom 1 arena.old }
     ensures is { IfOk result (λ all. IsConjunction arena.new
         (option_to_list own ++ guards_in images.now (parts_of (plain_node node.now))) all) }
     ensures grows { OnOk result ((asker : GroundNode) → Grows asker 1 arena.old arena.new) }
@@ -104,6 +109,7 @@ fn number_image(
     requires stand { All (StandsIn arena.old) images.now }
     requires own { IfSome own (λ t. t < length arena.old) }
     requires whole { is_partial (made_safe (plain_node node.now)) ≡ false }
+    requires room { HasRoom 2 arena.old }
     ensures total { IfOk result (λ image.
         IsNodeAt arena.new image.total (over_totals images.now (plain_node node.now))) }
     ensures guard { IfOk result (λ image. IsConjunction arena.new
@@ -126,6 +132,7 @@ fn plain_image(
     requires kind { image_kind (plain_node node.now) ≡ Kind.Number }
     requires parts { All (λ t. t < length images.now) (parts_of (plain_node node.now)) }
     requires stand { All (StandsIn arena.old) images.now }
+    requires room { HasRoom 3 arena.old }
     ensures is { IfOk result (λ image.
         IsImage arena.new nought images.now (plain_node node.now) image) }
     ensures grows { OnOk result (Grows (plain_node node.now) 3 arena.old arena.new) }
@@ -146,6 +153,7 @@ fn truth_image(
     requires kind { image_kind (plain_node node.now) ≡ Kind.Truth }
     requires parts { All (λ t. t < length images.now) (parts_of (plain_node node.now)) }
     requires stand { All (StandsIn arena.old) images.now }
+    requires room { HasRoom 3 arena.old }
     ensures is { IfOk result (λ image.
         IsImage arena.new nought images.now (plain_node node.now) image) }
     ensures grows { OnOk result (Grows (plain_node node.now) 3 arena.old arena.new) }
@@ -158,7 +166,7 @@ fn truth_image(
     let all = conjunction(arena, guards)?;
     match all {
         Some(total) => Ok(Image { total, guard: None }),
-        None => Err(Memory),
+        None => unreachable!(),
     }
 }
 
@@ -173,13 +181,14 @@ fn whole_image(
     requires kind { image_kind (plain_node node.now) ≡ Kind.Whole }
     requires parts { All (λ t. t < length images.now) (parts_of (plain_node node.now)) }
     requires stand { All (StandsIn arena.old) images.now }
+    requires room { HasRoom 3 arena.old }
     ensures is { IfOk result (λ image.
         IsImage arena.new nought images.now (plain_node node.now) image) }
     ensures grows { OnOk result (Grows (plain_node node.now) 3 arena.old arena.new) }
 {
     let _nought = nought;
     let Node::Whole(first, _) = node else {
-        return Err(Memory);
+        unreachable!()
     };
     let total = total(images, *first);
     let guard = guard_of(alloc, arena, images, node, None)?;
@@ -190,6 +199,7 @@ fn whole_image(
 fn unequal(arena: &mut Arena, term: Term, nought: Term) -> Result<Term, Memory>
     requires term { term < length arena.old }
     requires nought { nought < length arena.old }
+    requires room { HasRoom 1 arena.old }
     ensures is { IfOk result (λ own.
         IsNodeAt arena.new own (compare CompareOp.NotEqual term nought)) }
     ensures grows { OnOk result ((asker : GroundNode) → Grows asker 1 arena.old arena.new) }
@@ -208,6 +218,8 @@ fn divisor_test(
     requires parts { All (λ t. t < length images.now) (parts_of (plain_node node.now)) }
     requires stand { All (StandsIn arena.old) images.now }
     requires nought { nought < length arena.old }
+    requires room { HasRoom 1 arena.old }
+    requires kind { image_kind (plain_node node.now) ≡ Kind.Division }
     ensures is { IfOk result (λ own.
         IsDivisorTest arena.new nought images.now (plain_node node.now) own) }
     ensures grows { OnOk result ((asker : GroundNode) → Grows asker 1 arena.old arena.new) }
@@ -221,7 +233,7 @@ fn divisor_test(
             let own = unequal(arena, total(images, *divisor), nought)?;
             Ok(own)
         }
-        _ => Err(Memory),
+        _ => unreachable!(),
     }
 }
 
@@ -266,6 +278,7 @@ fn table_of(
 ) -> Result<Term, Memory>
     requires indices { All (λ t. t < length images.now) indices.now }
     requires stand { All (StandsIn arena.old) images.now }
+    requires room { HasRoom 1 arena.old }
     ensures is { IfOk result (λ own. IsNodeAt arena.new own (table (map (total_at images.now) indices.now)
         (filter (λ key. length key == length indices.now) (take count keys.now)))) }
     ensures grows { OnOk result ((asker : GroundNode) → Grows asker 1 arena.old arena.new) }
@@ -280,6 +293,8 @@ fn table_of(
 fn key_test(alloc: Global, arena: &mut Arena, images: &[Image], node: &Node) -> Result<Term, Memory>
     requires parts { All (λ t. t < length images.now) (parts_of (plain_node node.now)) }
     requires stand { All (StandsIn arena.old) images.now }
+    requires room { HasRoom 1 arena.old }
+    requires kind { image_kind (plain_node node.now) ≡ Kind.Pick }
     ensures is { IfOk result (λ own. IsKeyTest arena.new images.now (plain_node node.now) own) }
     ensures grows { OnOk result ((asker : GroundNode) → Grows asker 1 arena.old arena.new) }
 {
@@ -288,7 +303,7 @@ fn key_test(alloc: Global, arena: &mut Arena, images: &[Image], node: &Node) -> 
             let own = table_of(alloc, arena, images, keys, parts.len(), indices)?;
             Ok(own)
         }
-        _ => Err(Memory),
+        _ => unreachable!(),
     }
 }
 
@@ -304,6 +319,7 @@ fn division_image(
     requires parts { All (λ t. t < length images.now) (parts_of (plain_node node.now)) }
     requires stand { All (StandsIn arena.old) images.now }
     requires nought { nought < length arena.old }
+    requires room { HasRoom 3 arena.old }
     ensures is { IfOk result (λ image.
         IsImage arena.new nought images.now (plain_node node.now) image) }
     ensures grows { OnOk result (Grows (plain_node node.now) 3 arena.old arena.new) }
@@ -324,6 +340,7 @@ fn pick_image(
     requires kind { image_kind (plain_node node.now) ≡ Kind.Pick }
     requires parts { All (λ t. t < length images.now) (parts_of (plain_node node.now)) }
     requires stand { All (StandsIn arena.old) images.now }
+    requires room { HasRoom 3 arena.old }
     ensures is { IfOk result (λ image.
         IsImage arena.new nought images.now (plain_node node.now) image) }
     ensures grows { OnOk result (Grows (plain_node node.now) 3 arena.old arena.new) }
@@ -345,6 +362,7 @@ pub fn node_image(
     requires parts { All (λ t. t < length images.now) (parts_of (plain_node node.now)) }
     requires stand { All (StandsIn arena.old) images.now }
     requires nought { nought < length arena.old }
+    requires room { HasRoom 3 arena.old }
     ensures is { IfOk result (λ image.
         IsImage arena.new nought images.now (plain_node node.now) image) }
     ensures grows { OnOk result (Grows (plain_node node.now) 3 arena.old arena.new) }

@@ -5,7 +5,7 @@ use Rattle.std.proofs.lemmas.Option.{slice_get_within}
 use Rattle.ep_defined.specs.Images.{IsImage, StandsIn}
 use Rattle.ep_defined.specs.Translations.{Translates}
 use Rattle.ep_defined.specs.declared.images.Image.{Image}
-use Rattle.ep_defined.proofs.AllImages.{images_stand}
+use Rattle.ep_defined.proofs.AllImages.{images_stand, room_for_image}
 use Rattle.ep_defined.proofs.Translating.{translates_more}
 use Rattle.ep_ground.specs.Nodes.{parts_of}
 use Rattle.ep_ground.specs.NodeViews.{plain_node}
@@ -38,4 +38,5 @@ node_image-requires c =
       parts = subst (λ (n : ℕ). All (λ (p : ℕ). p < n) (parts_of (plain_node c.node-node.result.now))) place c.node-node.ensures.parts;
       stand = subst (All (StandsIn c.loop-t.arena)) (sym c.deref.ensures.value) (images_stand c.args.g.now.cells.items c.args.g.now.arena c.loop-t.arena c.args.nought c.loop-t.images.items c.loop-t.invariant.stand);
       nought = slice_get_within c.loop-t.arena c.args.nought _ c.loop-t.invariant.stand.is_nought;
+      room = room_for_image (length c.loop-t.arena) (length c.loop-t.images.items) c.loop-t.t (length c.args.g.now.arena) c.loop-t.invariant.stand.few c.loop-t.invariant.many (subst (λ (n : ℕ). c.loop-t.t < n) c.len-t-end.ensures.value c.loop-t-test.true) c.requires.nodes;
     }

@@ -7,6 +7,7 @@ use Rattle.ep_defined.proofs.remove.remove_undefined.Goals as goal
 
 pub images_of-requires : goal.images_of-requires
 images_of-requires c = record {
+  nodes = c.requires.nodes;
   well_formed = c.requires.well_formed;
   start = c.in_ok-nought.ensures c.args.g.cells.items c.args.g.arena;
 }

@@ -3,9 +3,9 @@ use Rattle.ep_defined.proofs.Growth.{all_of_safe, conjunction_more, conjunction_
 use Rattle.ep_ground.specs.Nodes.{parts_of}
 use Rattle.ep_defined.proofs.steps.conjunction.Goals as goal
 
-pub taken-requires : goal.taken-requires
+pub taken-requires-clause-parts : goal.taken-requires-clause-parts
 unfolding parts_of
-taken-requires c = c.requires
+taken-requires-clause-parts c = c.requires.guards
 
 pub returns-in-empty-clause-is : goal.returns-in-empty-clause-is
 returns-in-empty-clause-is c = conjunction_none c.args.arena.now c.args.guards.items (omega (arith, c.in-empty.len_below, ap length c.as_slice.ensures.value))

@@ -2,7 +2,7 @@ use Rattle.std.proofs.Common.{arith}
 use Rattle.ep_defined.specs.Images.{IsImageBy}
 use Rattle.ep_defined.specs.declared.kinds.Kind.{Kind}
 use Rattle.ep_ground.specs.NodeViews.{plain_node}
-use Rattle.ep_defined.proofs.Growth.{all_later, pick_safe, keys_later, keys_there, grows_then, image_by}
+use Rattle.ep_defined.proofs.Growth.{all_later, pick_safe, keys_later, keys_there, grows_then, image_by, room_after, room_less}
 use Rattle.ep_defined.proofs.steps.pick_image.Goals as goal
 
 pub number_image-requires-clause-whole : goal.number_image-requires-clause-whole
@@ -25,3 +25,10 @@ returns-clause-is c =
 pub returns-clause-grows : goal.returns-clause-grows
 returns-clause-grows c =
     grows_then (plain_node c.args.node.now) 1 2 3 c.args.arena.now c.key_test.new.arena c.number_image.new.arena (omega arith) (c.in_ok-own.ensures.grows (plain_node c.args.node.now)) c.in_ok-image.ensures.grows
+
+pub key_test-requires-clause-room : goal.key_test-requires-clause-room
+key_test-requires-clause-room c = room_less 1 3 c.args.arena.now (omega arith) c.requires.room
+
+pub number_image-requires-clause-room : goal.number_image-requires-clause-room
+number_image-requires-clause-room c =
+    room_after (plain_node c.args.node.now) 1 2 3 c.args.arena.now c.key_test.new.arena (omega arith) (c.in_ok-own.ensures.grows (plain_node c.args.node.now)) c.requires.room

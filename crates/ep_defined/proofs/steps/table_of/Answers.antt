@@ -6,9 +6,9 @@ use Rattle.ep_ground.specs.Nodes.{GroundNode, parts_of, table}
 use Rattle.ep_defined.proofs.Growth.{table_safe, totals_stand}
 use Rattle.ep_defined.proofs.steps.table_of.Goals as goal
 
-pub taken-requires : goal.taken-requires
+pub taken-requires-clause-parts : goal.taken-requires-clause-parts
 unfolding parts_of
-taken-requires c =
+taken-requires-clause-parts c =
     subst (All (λ (t : ℕ). t < length c.args.arena.now)) (sym c.in_ok-columns.ensures) (totals_stand c.args.arena.now c.args.images.now c.args.indices.now c.requires.stand c.requires.indices)
 
 pub returns-clause-is : goal.returns-clause-is

@@ -3,9 +3,9 @@ use Rattle.ep_ground.specs.Nodes.{parts_of}
 use Rattle.ep_defined.proofs.Growth.{compare_safe, two_stand}
 use Rattle.ep_defined.proofs.steps.unequal.Goals as goal
 
-pub taken-requires : goal.taken-requires
+pub taken-requires-clause-parts : goal.taken-requires-clause-parts
 unfolding parts_of
-taken-requires c =
+taken-requires-clause-parts c =
     two_stand c.args.arena.now c.args.term c.args.nought c.requires.term c.requires.nought
 
 pub returns-clause-grows : goal.returns-clause-grows

@@ -3,8 +3,9 @@ use Rattle.ep_defined.specs.Images.{IsConjunction, IsImageBy, IsWholeImage, guar
 use Rattle.ep_defined.specs.declared.kinds.Kind.{Kind}
 use Rattle.ep_ground.specs.Nodes.{parts_of}
 use Rattle.ep_ground.specs.NodeViews.{plain_node}
-use Rattle.ep_defined.proofs.Growth.{grows_at_most, image_by}
+use Rattle.ep_defined.proofs.Growth.{grows_at_most, image_by, room_less}
 use Rattle.ep_defined.proofs.Listing.{first_below, parts_below}
+use Rattle.ep_defined.proofs.SafeKinds.{no_whole_left}
 use Rattle.ep_defined.proofs.steps.whole_image.Goals as goal
 
 pub total-total-requires : goal.total-total-requires
@@ -21,3 +22,9 @@ returns-clause-is c =
 pub returns-clause-grows : goal.returns-clause-grows
 returns-clause-grows c =
     grows_at_most (plain_node c.args.node.now) 1 3 c.args.arena.now c.guard_of.new.arena (omega arith) (c.in_ok-guard.ensures.grows (plain_node c.args.node.now))
+
+pub guard_of-requires-clause-room : goal.guard_of-requires-clause-room
+guard_of-requires-clause-room c = room_less 1 3 c.args.arena.now (omega arith) c.requires.room
+
+pub unreachable-requires : goal.unreachable-requires
+unreachable-requires c = no_whole_left c.args.node.now c.requires.kind c.in_default.not-Whole
