@@ -1,4 +1,4 @@
-"""What is told of the crates: which stand on one, and which names have two meanings."""
+"""What is told of the crates: which stand on one, which names have two meanings, and where want of memory is made by hand."""
 import shutil, unittest
 
 from base import ROOT, Case, write
@@ -11,6 +11,44 @@ pub fn run(a: u64) -> u64
     ensures read { IsRead a }
 {
     a
+}
+"""
+
+REFUSES = """use low::Memory;
+
+/// Memory, or Err(Memory).
+pub enum Stop {
+    Wrong,
+    Memory,
+}
+
+impl From<Memory> for Stop {
+    ghost from_gives = { λ _ e. e ≡ Memory };
+
+    fn from(_refused: Memory) -> Stop {
+        Stop::Memory
+    }
+}
+
+fn one(a: u64) -> Result<u64, Memory>
+    ensures { result ≡ Err Memory → a ≡ 0 }
+{
+    let b = a.checked_add(1).ok_or(Memory)?;
+    match two(b) {
+        Ok(c) => Ok(c),
+        Err(Stop::Memory) => Err(Memory),
+        Err(Stop::Wrong) => Err(Memory),
+    }
+}
+
+fn two(a: u64) -> Result<u64, Stop> {
+    let Err(Memory) = one(a) else {
+        return Err(Stop::Memory);
+    };
+    match one(a) {
+        Err(Memory) => Err(Stop::Memory),
+        _ => Err(Stop::Wrong),
+    }
 }
 """
 
@@ -30,6 +68,14 @@ class Crates(Case):
         self.assertEqual((status, out.split("\n")[0]), (1, "same: low/Words*, top/Words*"))
         status, out, _ = self.twice(read + "abbrev pub same : N\nsame = one\n", "abbrev pub IsDone : N\nIsDone = other\nabbrev pub other : N\nother = two\n")
         self.assertEqual((status, out.split("\n")[0][:8]), (0, "0 names "))
+
+    def test_want_of_memory_that_is_made_by_hand_is_listed(self):
+        for crate in ("top", "top_tests"):
+            write(f"{self.folder}/crates/{crate}/src/top.rt", REFUSES)
+        places = {f"crates/top/src/top.rt:{line}" for line in (20, 24, 30)}
+        status, out, _ = self.call(f"{ROOT}/tools/sealed", self.folder)
+        lines = out.split("\n")
+        self.assertEqual((status, {line.split(": ")[0] for line in lines[:3]}, lines[3:]), (0, places, ["   3 top", "3 made by hand", ""]))
 
     def test_which_crates_stand_on_one(self):
         tool = shutil.copy(f"{ROOT}/tools/stands_on", write(f"{self.folder}/tools/stands_on", ""))
