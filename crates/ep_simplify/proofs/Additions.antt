@@ -45,11 +45,11 @@ without g (x ∷ xs) t found = elim (of_cons x xs t found) as (λ _. Without g (
     }
 
 -- an element that a number comes of
-record Source (f g m : ℕ → ℕ) (ts : List ℕ) (u : ℕ) : Type 0 where
-  from : ℕ
-  there : Contains ts from
-  is : m from ≡ u
-  less : f u ≤ g from
+pub record Source (f g m : ℕ → ℕ) (ts : List ℕ) (u : ℕ) : Type 0 where
+  pub from : ℕ
+  pub there : Contains ts from
+  pub is : m from ≡ u
+  pub less : f u ≤ g from
 
 pairs_tail : (u : ℕ) (us : List ℕ) → AllPairs (λ t later. t < later) (u ∷ us) → AllPairs (λ t later. t < later) us
 pairs_tail u us h = λ i j d less below. h (suc i) (suc j) d (omega (arith, less)) (omega (arith, below))
@@ -58,7 +58,7 @@ head_less : (u : ℕ) (us : List ℕ) → AllPairs (λ t later. t < later) (u �
 head_less u us h s found = subst (λ x. u < x) found.2 (h 0 (suc found.0) s (omega arith) (omega (arith, found.1)))
 
 -- numbers that come each of another element have no greater sum
-sums_less : (f g m : ℕ → ℕ) (us ts : List ℕ) → AllPairs (λ t later. t < later) us → ((u : ℕ) → Contains us u → Source f g m ts u) → sum_by f us ≤ sum_by g ts
+pub sums_less : (f g m : ℕ → ℕ) (us ts : List ℕ) → AllPairs (λ t later. t < later) us → ((u : ℕ) → Contains us u → Source f g m ts u) → sum_by f us ≤ sum_by g ts
 sums_less f g m [] ts distinct source = omega arith
 sums_less f g m (u ∷ us) ts distinct source =
     let first = source u (0, omega arith, refl) in

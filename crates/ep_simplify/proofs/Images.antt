@@ -78,7 +78,7 @@ asks_none node other weights few = record {
   additions = omega (arith, few);
 }
 
-asks_with : (f : ℕ → ℕ) (node : GroundNode) → AsksNoMore node (with_parts f node)
+pub asks_with : (f : ℕ → ℕ) (node : GroundNode) → AsksNoMore node (with_parts f node)
 unfolding with_parts coefficients_of additions_in
 asks_with f (constant n) = asks_none (constant n) (constant n) refl refl
 asks_with f undefined = asks_none undefined undefined refl refl

@@ -1,11 +1,11 @@
-mod Values
-mod Untold
-mod Taking
+pub mod Values
+pub mod Untold
+pub mod Taking
 mod Forms
 mod Deciding
 mod Negating
 mod Joining
 mod Settled
-mod Images
-mod Simplified
-mod Additions
+pub mod Images
+pub mod Simplified
+pub mod Additions

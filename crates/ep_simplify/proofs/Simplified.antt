@@ -24,7 +24,16 @@ use Rattle.ep_simplify.specs.Settling.{AreNear, IsNews, IsUntold}
 use Rattle.ep_simplify.specs.declared.news.News.{News}
 use Rattle.ep_simplify.specs.Standing.{ComesOf, IsSimplified, Stand, StandsInFor, goal_image, standing_at}
 
--- what is known of a ground whose terms have images
+-- what is known of a ground whose terms have images with the same values
+pub record IsKept (g new : GroundState) (images : List ℕ) : Type 0 where
+  pub there : (t : ℕ) → t < length images → standing_at images t < length new.nodes
+  pub value : (t : ℕ) → t < length images → (values : List ℤ) → AreCellValues g.cells values → term_value new.nodes values (standing_at images t) ≡ term_value g.nodes values t
+  pub many : length images ≡ length g.nodes
+  pub simplified : IsSimplified g new images
+  pub well_formed : IsWellFormed g
+  pub safe : All (IsSafeOver (length g.cells)) new.nodes
+
+-- the same of images that reach no farther
 pub record IsAllSimplified (g new : GroundState) (images : List ℕ) : Type 0 where
   pub stand : Stand g.cells g.nodes new.nodes images
   pub many : length images ≡ length g.nodes
@@ -32,11 +41,21 @@ pub record IsAllSimplified (g new : GroundState) (images : List ℕ) : Type 0 wh
   pub well_formed : IsWellFormed g
   pub safe : All (IsSafeOver (length g.cells)) new.nodes
 
+pub is_kept : (g new : GroundState) (images : List ℕ) → IsAllSimplified g new images → IsKept g new images
+is_kept g new images h = record {
+  there = λ t below. (h.stand.each t below).there;
+  value = λ t below. (h.stand.each t below).value;
+  many = h.many;
+  simplified = h.simplified;
+  well_formed = h.well_formed;
+  safe = h.safe;
+}
+
 -- the terms that a ground names are places of images
 pub named_below : (g : GroundState) (images : List ℕ) → length images ≡ length g.nodes → IsWellFormed g → All (λ t. t < length images) (named_terms g)
 named_below g images many h = subst (λ n. All (λ t. t < n) (named_terms g)) (sym many) h.terms
 
-each_named : (g new : GroundState) (images : List ℕ) → IsAllSimplified g new images → (t : ℕ) → Contains (named_terms g) t → t < length images
+pub each_named : (g new : GroundState) (images : List ℕ) → IsKept g new images → (t : ℕ) → Contains (named_terms g) t → t < length images
 each_named g new images h t found = All-contains (λ u. u < length images) (named_terms g) t (named_below g images h.many h.well_formed) found
 
 -- what holds of all images holds of the terms over them
@@ -57,7 +76,7 @@ goals_over images None = refl
 goals_over images (Some goal) = refl
 
 -- the terms that the new ground names are the images of those that the old one does
-new_named : (g new : GroundState) (images : List ℕ) → IsSimplified g new images → named_terms new ≡ map (standing_at images) (named_terms g)
+pub new_named : (g new : GroundState) (images : List ℕ) → IsSimplified g new images → named_terms new ≡ map (standing_at images) (named_terms g)
 unfolding named_terms
 new_named g new images h =
     (λ i. h.clauses i ++ goals_of (h.objective i))
@@ -88,7 +107,7 @@ goal_back v w images (Some goal) same h = subst IsSome (same goal.1 (0, omega ar
 abbrev IsOneBy : (ℕ → Option ℤ) → ℕ → Type 0
 IsOneBy w t = w t ≡ Some (pos 1)
 
-pub keeps : (g new : GroundState) (images : List ℕ) → IsAllSimplified g new images → KeepsSolutions g new
+pub keeps : (g new : GroundState) (images : List ℕ) → IsKept g new images → KeepsSolutions g new
 unfolding named_terms HasObjective ground_objective
 keeps g new images h = record {
   cells = h.simplified.cells;
@@ -119,7 +138,7 @@ keeps g new images h = record {
     w values = term_value new.nodes values
 
     same_at : (values : List ℤ) → AreCellValues g.cells values → (t : ℕ) → Contains (named_terms g) t → w values (standing_at images t) ≡ v values t
-    same_at values cells t found = (h.stand.each t (each_named g new images h t found)).value values cells
+    same_at values cells t found = h.value t (each_named g new images h t found) values cells
 
     clause_same : (values : List ℤ) → AreCellValues g.cells values → (k d : ℕ) → k < length g.clauses → w values (standing_at images (get_or g.clauses k d)) ≡ v values (get_or g.clauses k d)
     clause_same values cells k d below = same_at values cells (get_or g.clauses k d) (Contains-append_left g.clauses (goals_of g.objective) (get_or g.clauses k d) (Contains-get_or g.clauses k d below))
@@ -127,14 +146,14 @@ keeps g new images h = record {
     goal_stands : (values : List ℤ) → AreCellValues g.cells values → (t : ℕ) → Contains (goals_of g.objective) t → w values (standing_at images t) ≡ v values t
     goal_stands values cells t found = same_at values cells t (Contains-append_right g.clauses (goals_of g.objective) t found)
 
-pub well_formed_after : (g new : GroundState) (images : List ℕ) → IsAllSimplified g new images → IsWellFormed new
+pub well_formed_after : (g new : GroundState) (images : List ℕ) → IsKept g new images → IsWellFormed new
 well_formed_after g new images h = record {
   terms = subst (All (λ t. t < length new.nodes)) (sym (new_named g new images h.simplified))
-      (all_to_map (λ t. t < length new.nodes) (standing_at images) (named_terms g) (λ k d below. (h.stand.each (get_or (named_terms g) k d) (each_named g new images h (get_or (named_terms g) k d) (Contains-get_or (named_terms g) k d below))).there));
+      (all_to_map (λ t. t < length new.nodes) (standing_at images) (named_terms g) (λ k d below. h.there (get_or (named_terms g) k d) (each_named g new images h (get_or (named_terms g) k d) (Contains-get_or (named_terms g) k d below))));
   nodes = subst (λ cs. All (StandsOver (length cs)) new.nodes) (sym h.simplified.cells) (All-weaker (IsSafeOver (length g.cells)) (StandsOver (length g.cells)) (λ node safe. safe.stands) new.nodes h.safe);
 }
 
-pub none_partial : (g new : GroundState) (images : List ℕ) → IsAllSimplified g new images → HasNoPartialNode new
+pub none_partial : (g new : GroundState) (images : List ℕ) → IsKept g new images → HasNoPartialNode new
 none_partial g new images h = All-weaker (IsSafeOver (length g.cells)) (λ node. is_partial node ≡ false) (λ node safe. safe.whole) new.nodes h.safe
 
 -- each term that the new ground reaches comes of one that the old one does
@@ -148,7 +167,7 @@ pub record ComesReached (g new : GroundState) (images : List ℕ) (u : ℕ) : Ty
 pub comes_reached : (g new : GroundState) (images : List ℕ) → IsAllSimplified g new images → (u : ℕ) → IsTermReached new u → ComesReached g new images u
 comes_reached g new images h u r =
     let p = of_map (standing_at images) (named_terms g) r.from (subst (λ ts. Contains ts r.from) (new_named g new images h.simplified) r.named) in
-    let comes = h.stand.back p.0 (each_named g new images h p.0 p.1) u (subst (λ k. LeadsTo new.nodes k u) (sym p.2) r.leads) in
+    let comes = h.stand.back p.0 (each_named g new images (is_kept g new images h) p.0 p.1) u (subst (λ k. LeadsTo new.nodes k u) (sym p.2) r.leads) in
     record {
       old = p.0;
       reached = record { from = p.0; named = p.1; leads = itself p.0 };

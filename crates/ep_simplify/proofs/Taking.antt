@@ -135,11 +135,11 @@ noted_reaches cells old new node reach h grown is noted near =
     ∙ ap (λ is. is ++ interval_of n.0 ∷ []) (h.reaches k.0) ∙ ap (λ i. reaches_of old.arena cells ++ i ∷ []) k.1
     ∙ sym (reaches_push old.arena cells node) ∙ ap (λ ns. reaches_of ns cells) (sym grown)
 
-leads_through : (nodes : List GroundNode) (s t u : ℕ) → LeadsTo nodes s t → LeadsTo nodes t u → LeadsTo nodes s u
+pub leads_through : (nodes : List GroundNode) (s t u : ℕ) → LeadsTo nodes s t → LeadsTo nodes t u → LeadsTo nodes s u
 leads_through nodes s _ u (itself _) g = g
 leads_through nodes s t u (by_part _ part _ node is found rest) g = by_part s part u node is found (leads_through nodes part t u rest g)
 
-below_through : (nodes : List GroundNode) (node : GroundNode) (t u : ℕ) → IsBelowPart nodes node t → LeadsTo nodes t u → IsBelowPart nodes node u
+pub below_through : (nodes : List GroundNode) (node : GroundNode) (t u : ℕ) → IsBelowPart nodes node t → LeadsTo nodes t u → IsBelowPart nodes node u
 below_through nodes node t u h g = record { part = h.part; is_part = h.is_part; leads = leads_through nodes h.part t u h.leads g }
 
 pub asks_same : (node : GroundNode) → AsksNoMore node node
@@ -272,12 +272,12 @@ known_span cells news h near t span below at =
 -- ---- what take gives
 
 -- an arena that is as long as before is as before
-same_arena : (old new : List GroundNode) (node : GroundNode) → Interned old node new → length new ≡ length old → new ≡ old
+pub same_arena : (old new : List GroundNode) (node : GroundNode) → Interned old node new → length new ≡ length old → new ≡ old
 same_arena old new node (inl h) long = h.1
 same_arena old new node (inr h) long = absurd (omega (arith, long, ap length h.1, length-append old (node ∷ [])))
 
 -- an arena that isn't has the node at its end
-grown_arena : (old new : List GroundNode) (node : GroundNode) → Interned old node new → (length new ≡ length old → ⊥) → new ≡ old ++ node ∷ []
+pub grown_arena : (old new : List GroundNode) (node : GroundNode) → Interned old node new → (length new ≡ length old → ⊥) → new ≡ old ++ node ∷ []
 grown_arena old new node (inl h) long = absurd (long (ap length h.1))
 grown_arena old new node (inr h) long = h.1
 

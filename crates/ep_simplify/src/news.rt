@@ -84,7 +84,7 @@ fn note(news: &mut News, reach: Option<Span>) -> Result<(), Memory>
 }
 
 /// The term of a node.
-fn interned(arena: &mut Arena, node: Node) -> Result<Term, Memory>
+pub fn interned(arena: &mut Arena, node: Node) -> Result<Term, Memory>
     requires room { length arena.old < 2 ^ 32 - 1 }
     requires parts { All (λ part. part < length arena.old) (parts_of (plain_node node)) }
     ensures term { IfOk result (λ term. IsNodeAt arena.new term (plain_node node)) }

@@ -10,9 +10,10 @@ ghost use Rattle.ep_simplify.specs.Decided.{AreFolded, AreUntold, IsOpen};
 ghost use Rattle.ep_simplify.specs.Settling.{AreNear, IsNews};
 ghost use Rattle.ep_simplify.specs.Standing.{IsSimplified, Stand, goal_image};
 
+use crate::copying::{all, image, with_parts};
 use crate::news::News;
 use crate::settling::settled;
-use crate::with_parts::{all, image, with_parts};
+
 use ep_base::{Memory, Sense};
 use ep_ground::{Arena, Ground, Term};
 use std::alloc::Global;
@@ -68,7 +69,7 @@ fn objective_of(images: &[Term], objective: Option<(Sense, Term)>) -> Option<(Se
 }
 
 /// The ground with what stands for clauses and objective of another.
-fn new_ground(alloc: Global, g: Ground, arena: Arena, images: &[Term]) -> Result<Ground, Memory>
+pub fn new_ground(alloc: Global, g: Ground, arena: Arena, images: &[Term]) -> Result<Ground, Memory>
     requires { All (λ t. t < length images.now) (named_terms (plain_ground g)) }
     ensures nodes { IfOk result (λ new. new.arena ≡ arena) }
     ensures simplified { IfOk result (λ new. IsSimplified (plain_ground g) (plain_ground new) images.now) }

@@ -2,7 +2,7 @@ use Rattle.std.proofs.Common.{ap, length, subst, sym, ◌∙◌}
 use Rattle.ep_ground.specs.GroundViews.{plain_ground}
 use Rattle.ep_simplify.proofs.Additions.{fewer_additions}
 use Rattle.ep_simplify.proofs.Images.{no_news}
-use Rattle.ep_simplify.proofs.Simplified.{all_folded, all_simplified, all_undecided, all_untold, bounded_after, few_nodes, keeps, named_below, none_told, none_partial, well_formed_after}
+use Rattle.ep_simplify.proofs.Simplified.{all_folded, all_simplified, all_undecided, all_untold, bounded_after, few_nodes, is_kept, keeps, named_below, none_told, none_partial, well_formed_after}
 use Rattle.ep_ground.specs.Terms.{PartsStandBefore}
 use Rattle.ep_simplify.specs.Standing.{IsSimplified}
 use Rattle.ep_simplify.proofs.simpler.simplify.Goals as goal
@@ -23,20 +23,23 @@ new_ground-requires c =
 pub returns-clause-keeps : goal.returns-clause-keeps
 returns-clause-keeps c =
     keeps (plain_ground c.args.g) (plain_ground c.in_ok-new.new) c.in_ok-images.images.items
+    (is_kept (plain_ground c.args.g) (plain_ground c.in_ok-new.new) c.in_ok-images.images.items
     (all_simplified (plain_ground c.args.g) (plain_ground c.in_ok-new.new) c.in_ok-images.images.items c.images_of.new.news c.in_ok-new.ensures.nodes c.in_ok-images.ensures.stand c.in_ok-images.ensures.many
-    (subst (IsSimplified (plain_ground c.args.g) (plain_ground c.in_ok-new.new)) c.deref.ensures.value c.in_ok-new.ensures.simplified) c.requires.well_formed c.in_ok-images.ensures.news)
+    (subst (IsSimplified (plain_ground c.args.g) (plain_ground c.in_ok-new.new)) c.deref.ensures.value c.in_ok-new.ensures.simplified) c.requires.well_formed c.in_ok-images.ensures.news))
 
 pub returns-clause-no_partial : goal.returns-clause-no_partial
 returns-clause-no_partial c =
     none_partial (plain_ground c.args.g) (plain_ground c.in_ok-new.new) c.in_ok-images.images.items
+    (is_kept (plain_ground c.args.g) (plain_ground c.in_ok-new.new) c.in_ok-images.images.items
     (all_simplified (plain_ground c.args.g) (plain_ground c.in_ok-new.new) c.in_ok-images.images.items c.images_of.new.news c.in_ok-new.ensures.nodes c.in_ok-images.ensures.stand c.in_ok-images.ensures.many
-    (subst (IsSimplified (plain_ground c.args.g) (plain_ground c.in_ok-new.new)) c.deref.ensures.value c.in_ok-new.ensures.simplified) c.requires.well_formed c.in_ok-images.ensures.news)
+    (subst (IsSimplified (plain_ground c.args.g) (plain_ground c.in_ok-new.new)) c.deref.ensures.value c.in_ok-new.ensures.simplified) c.requires.well_formed c.in_ok-images.ensures.news))
 
 pub returns-clause-well_formed : goal.returns-clause-well_formed
 returns-clause-well_formed c =
     well_formed_after (plain_ground c.args.g) (plain_ground c.in_ok-new.new) c.in_ok-images.images.items
+    (is_kept (plain_ground c.args.g) (plain_ground c.in_ok-new.new) c.in_ok-images.images.items
     (all_simplified (plain_ground c.args.g) (plain_ground c.in_ok-new.new) c.in_ok-images.images.items c.images_of.new.news c.in_ok-new.ensures.nodes c.in_ok-images.ensures.stand c.in_ok-images.ensures.many
-    (subst (IsSimplified (plain_ground c.args.g) (plain_ground c.in_ok-new.new)) c.deref.ensures.value c.in_ok-new.ensures.simplified) c.requires.well_formed c.in_ok-images.ensures.news)
+    (subst (IsSimplified (plain_ground c.args.g) (plain_ground c.in_ok-new.new)) c.deref.ensures.value c.in_ok-new.ensures.simplified) c.requires.well_formed c.in_ok-images.ensures.news))
 
 pub returns-clause-bounded : goal.returns-clause-bounded
 returns-clause-bounded c =

@@ -1,7 +1,7 @@
 use Rattle.std.proofs.Common.{length}
 use Rattle.ep_defined.proofs.Listing.{left_below, parts_below, read_below, rest_below, right_below}
 use Rattle.ep_ground.specs.Nodes.{parts_of}
-use Rattle.ep_simplify.proofs.with_parts.with_parts.Goals as goal
+use Rattle.ep_simplify.proofs.copying.with_parts.Goals as goal
 
 pub all-requires-in-Pick : goal.all-requires-in-Pick
 unfolding parts_of

@@ -1,7 +1,7 @@
 use Rattle.std.proofs.Common.{[], ◌∷◌, ◌++◌, ap, ◌∙◌}
 use Rattle.ep_simplify.specs.Standing.{standing_at}
 use Rattle.ep_defined.proofs.Listing.{pushed_map}
-use Rattle.ep_simplify.proofs.with_parts.all.Goals as goal
+use Rattle.ep_simplify.proofs.copying.all.Goals as goal
 
 pub loop-term-preserved : goal.loop-term-preserved
 loop-term-preserved c =

@@ -2,7 +2,7 @@ use Rattle.std.proofs.Common.{◌≡◌, ℕ, ℤ, ◌<◌, [], ◌∷◌, ◌++
 use Rattle.std.proofs.lemmas.Int.{to_z-of_z}
 use Rattle.ep_simplify.specs.Standing.{standing_at}
 use Rattle.ep_defined.proofs.Listing.{pushed_map, second_holds}
-use Rattle.ep_simplify.proofs.with_parts.weighed.Goals as goal
+use Rattle.ep_simplify.proofs.copying.weighed.Goals as goal
 
 pub image-requires : goal.image-requires
 image-requires c = second_holds (λ (t : ℕ). t < length c.args.images.now) c.args.parts.now c.loop-part.part-index _ c.requires c.loop-part-test.true c.part-item.is
