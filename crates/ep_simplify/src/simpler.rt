@@ -13,7 +13,6 @@ ghost use Rattle.ep_simplify.specs.Standing.{IsSimplified, Stand, goal_image};
 use crate::copying::{all, image, with_parts};
 use crate::news::News;
 use crate::settling::settled;
-
 use ep_base::{Memory, Sense};
 use ep_ground::{Arena, Ground, Term};
 use std::alloc::Global;
