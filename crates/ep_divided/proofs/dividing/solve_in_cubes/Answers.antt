@@ -15,7 +15,7 @@ use Rattle.ep_divided.specs.Divided.{IsLoggedAsDivided}
 use Rattle.ep_divided.proofs.Showing.{AreSolvedFor, divided-logged, divided-new, divided-right, divided-typed, divided-valid, stated, undivided-logged, unstated}
 use Rattle.ep_divided.proofs.dividing.solve_in_cubes.Given.{Over}
 use Rattle.ep_divided.proofs.dividing.solve_in_cubes.Goals as goal
-use Rattle.ep_divided.proofs.dividing.solve_in_cubes.Goals.{After-drop-encoded-6}
+use Rattle.ep_divided.proofs.dividing.solve_in_cubes.Goals.{After-drop-encoded-7}
 
 -- what holds of a value where another fact does
 where-ok : {A E : Type 0} (r : Result A E) (P Q : A → Type 0) → IfOk r P → ((x : A) → P x → Q x) → IfOk r Q
@@ -38,7 +38,7 @@ returns-then-is_some-clause-logged g c =
     (stated (λ o. goal_of o.now) c.objective.result i.goal c.objective.ensures (sym c.is_some.ensures ∙ c.if-is_some.true)) logged)
 
 -- the cubes of the instance's formula are solved
-solved : (g : Over) (c : After-drop-encoded-6 g) → AreSolvedFor (instance_mode c.args.instance.now) (plain_instance c.args.instance.now) c.args.cubes c.args.budget
+solved : (g : Over) (c : After-drop-encoded-7 g) → AreSolvedFor (instance_mode c.args.instance.now) (plain_instance c.args.instance.now) c.args.cubes c.args.budget
 solved g c =
     let encoded = c.in_ok-encoded.encoded in
     record {
