@@ -1,0 +1,10 @@
+pub mod Splitting
+pub mod Totals
+pub mod TwoParts
+pub mod Best
+pub mod Parts
+pub mod Taken
+pub mod Cuts
+pub mod Settled
+pub mod Standing
+pub mod Shared
