@@ -15,6 +15,7 @@ use ep_defined::remove_undefined;
 use ep_flat::CellMap;
 use ep_flatten::flatten;
 use ep_ground::{Cell, Ground};
+use ep_share::share;
 use ep_simplify::simplify;
 use std::alloc::Global;
 
@@ -41,12 +42,13 @@ pub fn formula_of(alloc: Global, g: Ground) -> Result<Encoded, Memory>
 {
     let defined = remove_undefined(alloc, g)?;
     let simple = simplify(alloc, defined)?;
-    let (flat, map) = flatten(alloc, &simple)?;
+    let shared = share(alloc, simple)?;
+    let (flat, map) = flatten(alloc, &shared)?;
     let (formula, layout) = encode(alloc, &flat)?;
     Ok(Encoded {
         formula,
         layout,
-        cells: simple.cells,
+        cells: shared.cells,
         map,
     })
 }
