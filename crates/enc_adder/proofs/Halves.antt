@@ -1,5 +1,5 @@
 -- The bits of what a variable's numbers are worth, from the lowest on.
-use Rattle.std.proofs.Common.{inl, inr, ◌≡◌, ℕ, zero, suc, ◌+◌, ◌<◌, ◌%◌, ◌/◌, ℤ, pos, ◌+ℤ◌, ◌-ℤ◌, ◌*ℤ◌, List, [], ◌∷◌, ◌++◌, length, take, map, refl, sym, ap, subst, ◌∙◌, arith, get_or}
+use Rattle.std.proofs.Common.{inl, inr, ◌≡◌, ℕ, zero, suc, ◌+◌, ◌<◌, ◌≤◌, ◌%◌, ◌/◌, ℤ, pos, ◌+ℤ◌, ◌-ℤ◌, ◌*ℤ◌, List, [], ◌∷◌, ◌++◌, length, take, map, refl, sym, ap, subst, ◌∙◌, arith, get_or}
 use Rattle.std.specs.List.{All}
 use Rattle.std.proofs.lemmas.Int.{ints}
 use Rattle.std.proofs.lemmas.List.{map-append, take_more}
@@ -216,3 +216,28 @@ pub low_bit_says : (L : List VariableLiterals) (f g : Cnf) (x : ℕ) (v : ℤ) (
 low_bit_says L f g x v y w v0 w0 is_layout adds is_v is_w =
     adds_like L f L g (Unless [] (Implied x v y w)) (λ values. number_at values x ≡ v0 → number_at values y ≡ w0) is_layout adds
     (λ values among. (λ h at. h (clause_none values) (at ∙ sym is_v) ∙ is_w, λ h off at. h (at ∙ is_v) ∙ sym is_w))
+
+-- what some steps are worth together
+unfoldable pub worth_left : List Step → ℕ
+worth_left [] = 0
+worth_left (s ∷ steps) = s.worth + worth_left steps
+
+halves_no_more : (steps : List Step) → worth_left (map half_step steps) ≤ worth_left steps
+unfolding half_step worth_left
+halves_no_more [] = omega arith
+halves_no_more (s ∷ steps) = let rest = halves_no_more steps in omega (arith, rest)
+
+halves_fewer : (steps : List Step) → (All (λ step. step.worth ≡ 0) steps → ⊥) → worth_left (map half_step steps) < worth_left steps
+unfolding half_step worth_left
+halves_fewer [] some = absurd (some (All-nil (λ step. step.worth ≡ 0)))
+halves_fewer (s ∷ steps) some = by s.worth refl (λ fewer. halves_fewer steps fewer)
+  where
+    by : (n : ℕ) → s.worth ≡ n → ((All (λ (step : Step). step.worth ≡ 0) steps → ⊥) → worth_left (map half_step steps) < worth_left steps) → (s.worth / 2) + worth_left (map half_step steps) < s.worth + worth_left steps
+    by zero is fewer = let rest = fewer (λ all. some (All-cons (λ step. step.worth ≡ 0) s steps is all)) in omega (arith, rest, is)
+    by (suc n) is fewer = let rest = halves_no_more steps in omega (arith, rest, is)
+
+-- where some step is worth something, their halves are worth less together
+pub worth_falls : (steps now halves : List Step) → now ≡ steps → halves ≡ map half_step steps → (All (λ step. step.worth ≡ 0) now → ⊥) → worth_left halves < worth_left steps
+worth_falls steps now halves same are_halves some =
+    subst (λ hs. worth_left hs < worth_left steps) (sym are_halves)
+    (halves_fewer steps (subst (λ ss. All (λ (step : Step). step.worth ≡ 0) ss → ⊥) same some))

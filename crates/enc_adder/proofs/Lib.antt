@@ -10,3 +10,6 @@ pub mod SideSums
 pub mod Sums
 pub mod Telling
 pub mod Widening
+pub mod OtherKinds
+pub mod Least
+pub mod Products

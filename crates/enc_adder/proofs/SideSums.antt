@@ -18,7 +18,7 @@ use Rattle.ep_flat.specs.Cons.{number_at}
 use Rattle.enc_adder.proofs.Sums.{none_total, numbers_below, total_front, total_push}
 use Rattle.enc_adder.proofs.Widening.{no_longer, numbers_later, widens_like, widens_nothing, widens_then}
 use Rattle.enc_adder.specs.Bits.{AreBits, AreNumbers, SpellsNumber, spelled, total}
-use Rattle.enc_adder.specs.Parts.{HasSides, Levels, difference, sum_of_parts}
+use Rattle.enc_adder.specs.Parts.{HasSides, Levels, Moves, difference, sum_of_parts}
 use Rattle.enc_adder.specs.declared.bits.Binary.{Binary}
 use Rattle.enc_adder.specs.declared.sides.Sides.{Sides}
 
@@ -67,41 +67,39 @@ spread (negsuc a) x y =
     omega (arith, ints, one, two, three, rest)
 
 -- a part on the left, and one on the right
-pub on_left : (L : List VariableLiterals) (f : Cnf) (L1 : List VariableLiterals) (g : Cnf) (old new : Sides) (made : Binary) (a least size shift : ℤ) (var : ℕ) → AreNumbers L old.left.items → AreNumbers L old.right.items
-    → SpellsNumber L f L1 g (λ values. size *ℤ (number_at values var -ℤ least)) made.bits.items → size ≡ a → shift ≡ a *ℤ least → new.left.items ≡ old.left.items ++ made ∷ [] → new.right.items ≡ old.right.items → new.rest ≡ old.rest +ℤ shift
+pub on_left : (L : List VariableLiterals) (f : Cnf) (L1 : List VariableLiterals) (g : Cnf) (old mid new : Sides) (made : Binary) (a least size shift : ℤ) (var : ℕ) → AreNumbers L mid.left.items → AreNumbers L mid.right.items
+    → Moves L1 old mid shift → SpellsNumber L f L1 g (λ values. size *ℤ (number_at values var -ℤ least)) made.bits.items → size ≡ a → shift ≡ a *ℤ least → new.left.items ≡ mid.left.items ++ made ∷ [] → new.right.items ≡ mid.right.items → new.rest ≡ mid.rest
     → HasSides L f L1 g (λ values. difference values old +ℤ (a *ℤ number_at values var)) new
 unfolding difference
-on_left L f L1 g old new made a least size shift var left right spells is_size is_shift pushed same rest = record {
-  left = subst (AreNumbers L1) (sym pushed) (All-push (λ (n : Binary). AreBits L1 n.bits.items) old.left.items made (numbers_later L L1 old.left.items spells.widens.goes_on.earlier left) spells.are_bits);
-  right = subst (AreNumbers L1) (sym same) (numbers_later L L1 old.right.items spells.widens.goes_on.earlier right);
+on_left L f L1 g old mid new made a least size shift var left right moves spells is_size is_shift pushed same rest = record {
+  left = subst (AreNumbers L1) (sym pushed) (All-push (λ (n : Binary). AreBits L1 n.bits.items) mid.left.items made (numbers_later L L1 mid.left.items spells.widens.goes_on.earlier left) spells.are_bits);
+  right = subst (AreNumbers L1) (sym same) (numbers_later L L1 mid.right.items spells.widens.goes_on.earlier right);
   widens = widens_like L f L1 g (λ values. spelled values made.bits.items ≡ size *ℤ (number_at values var -ℤ least)) (λ values. difference values new ≡ difference values old +ℤ (a *ℤ number_at values var)) spells.widens
       (λ values among is.
       let one = is ∙ ap (λ s. s *ℤ (number_at values var -ℤ least)) is_size ∙ spread a (number_at values var) least in
-      let two = ap (total values) pushed ∙ total_push values old.left.items made in
+      let two = ap (total values) pushed ∙ total_push values mid.left.items made in
       let three = ap (total values) same in
-      omega (arith, ints, one, two, three, rest, is_shift));
+      let four = moves.differs values among in
+      omega (arith, ints, one, two, three, four, rest, is_shift));
 }
 
-pub on_right : (L : List VariableLiterals) (f : Cnf) (L1 : List VariableLiterals) (g : Cnf) (old new : Sides) (made : Binary) (a least size shift : ℤ) (var : ℕ) → AreNumbers L old.left.items → AreNumbers L old.right.items
-    → SpellsNumber L f L1 g (λ values. size *ℤ (number_at values var -ℤ least)) made.bits.items → size ≡ neg_ℤ a → shift ≡ a *ℤ least → new.right.items ≡ old.right.items ++ made ∷ [] → new.left.items ≡ old.left.items → new.rest ≡ old.rest +ℤ shift
+pub on_right : (L : List VariableLiterals) (f : Cnf) (L1 : List VariableLiterals) (g : Cnf) (old mid new : Sides) (made : Binary) (a least size shift : ℤ) (var : ℕ) → AreNumbers L mid.left.items → AreNumbers L mid.right.items
+    → Moves L1 old mid shift → SpellsNumber L f L1 g (λ values. size *ℤ (number_at values var -ℤ least)) made.bits.items → size ≡ neg_ℤ a → shift ≡ a *ℤ least → new.right.items ≡ mid.right.items ++ made ∷ [] → new.left.items ≡ mid.left.items → new.rest ≡ mid.rest
     → HasSides L f L1 g (λ values. difference values old +ℤ (a *ℤ number_at values var)) new
 unfolding difference
-on_right L f L1 g old new made a least size shift var left right spells is_size is_shift pushed same rest = record {
-  left = subst (AreNumbers L1) (sym same) (numbers_later L L1 old.left.items spells.widens.goes_on.earlier left);
-  right = subst (AreNumbers L1) (sym pushed) (All-push (λ (n : Binary). AreBits L1 n.bits.items) old.right.items made (numbers_later L L1 old.right.items spells.widens.goes_on.earlier right) spells.are_bits);
+on_right L f L1 g old mid new made a least size shift var left right moves spells is_size is_shift pushed same rest = record {
+  left = subst (AreNumbers L1) (sym same) (numbers_later L L1 mid.left.items spells.widens.goes_on.earlier left);
+  right = subst (AreNumbers L1) (sym pushed) (All-push (λ (n : Binary). AreBits L1 n.bits.items) mid.right.items made (numbers_later L L1 mid.right.items spells.widens.goes_on.earlier right) spells.are_bits);
   widens = widens_like L f L1 g (λ values. spelled values made.bits.items ≡ size *ℤ (number_at values var -ℤ least)) (λ values. difference values new ≡ difference values old +ℤ (a *ℤ number_at values var)) spells.widens
       (λ values among is.
       let zero_is = other_negated a (number_at values var -ℤ least) in
       let one = is ∙ ap (λ s. s *ℤ (number_at values var -ℤ least)) is_size in
       let four = spread a (number_at values var) least in
-      let two = ap (total values) pushed ∙ total_push values old.right.items made in
+      let two = ap (total values) pushed ∙ total_push values mid.right.items made in
       let three = ap (total values) same in
-      omega (arith, ints, zero_is, one, two, three, four, rest, is_shift));
+      let five = moves.differs values among in
+      omega (arith, ints, zero_is, one, two, three, four, five, rest, is_shift));
 }
-
--- what is left over, in other words
-pub rest_as : (r k m rest a l new old : ℤ) → old ≡ r +ℤ (k *ℤ m) → r ≡ rest → k ≡ a → m ≡ l → new ≡ old → new ≡ rest +ℤ (a *ℤ l)
-rest_as r k m rest a l new old is is_rest is_a is_l same = same ∙ is ∙ ap (λ x. x +ℤ (k *ℤ m)) is_rest ∙ ap (λ x. rest +ℤ (x *ℤ m)) is_a ∙ ap (λ x. rest +ℤ (a *ℤ x)) is_l
 
 -- sums of parts
 no_parts : (values : List ℤ) → sum_of_parts values [] ≡ pos 0
@@ -178,31 +176,68 @@ pub all_parts : (L : List VariableLiterals) (f : Cnf) (L1 : List VariableLiteral
     → HasSides L f L1 g (λ values. sum_of_parts values parts) sides
 all_parts L f L1 g sides parts k long has = subst (λ ps. HasSides L f L1 g (λ values. sum_of_parts values ps) sides) (take_all k parts long) has
 
--- what is left over is added to one side
-pub levels_left : (L : List VariableLiterals) (old new : Sides) (number over : ℤ) (far : ℕ) (made : Binary) → over ≡ old.rest -ℤ number → pos far ≡ over → AreBits L made.bits.items → ((values : List ℤ) → AreOfDomains L values → spelled values made.bits.items ≡ pos far)
-    → new.left.items ≡ old.left.items ++ made ∷ [] → new.right.items ≡ old.right.items → Levels L old new number
+-- what is left over is put on one side
+pub aside_left : (L : List VariableLiterals) (old new : Sides) (over : ℤ) (far : ℕ) (made : Binary) → over ≡ old.rest → pos far ≡ over → AreBits L made.bits.items → ((values : List ℤ) → AreOfDomains L values → spelled values made.bits.items ≡ pos far)
+    → new.left.items ≡ old.left.items ++ made ∷ [] → new.right.items ≡ old.right.items → new.rest ≡ pos 0 → Moves L old new (pos 0)
 unfolding difference
-levels_left L old new number over far made is_over is_far bits spells pushed same = record {
+aside_left L old new over far made is_over is_far bits spells pushed same none = record {
   left = λ all. subst (AreNumbers L) (sym pushed) (All-push (λ (n : Binary). AreBits L n.bits.items) old.left.items made all bits);
   right = λ all. subst (AreNumbers L) (sym same) all;
   differs = λ values among.
       let one = ap (total values) pushed ∙ total_push values old.left.items made in
       let two = ap (total values) same in
       let three = spells values among in
-      omega (arith, ints, one, two, three, is_over, is_far);
+      omega (arith, ints, one, two, three, is_over, is_far, none);
 }
 
-pub levels_right : (L : List VariableLiterals) (old new : Sides) (number over : ℤ) (far : ℕ) (made : Binary) → over ≡ old.rest -ℤ number → pos far ≡ neg_ℤ over → AreBits L made.bits.items → ((values : List ℤ) → AreOfDomains L values → spelled values made.bits.items ≡ pos far)
-    → new.right.items ≡ old.right.items ++ made ∷ [] → new.left.items ≡ old.left.items → Levels L old new number
+pub aside_right : (L : List VariableLiterals) (old new : Sides) (over : ℤ) (far : ℕ) (made : Binary) → over ≡ old.rest → pos far ≡ neg_ℤ over → AreBits L made.bits.items → ((values : List ℤ) → AreOfDomains L values → spelled values made.bits.items ≡ pos far)
+    → new.right.items ≡ old.right.items ++ made ∷ [] → new.left.items ≡ old.left.items → new.rest ≡ pos 0 → Moves L old new (pos 0)
 unfolding difference
-levels_right L old new number over far made is_over is_far bits spells pushed same = record {
+aside_right L old new over far made is_over is_far bits spells pushed same none = record {
   left = λ all. subst (AreNumbers L) (sym same) all;
   right = λ all. subst (AreNumbers L) (sym pushed) (All-push (λ (n : Binary). AreBits L n.bits.items) old.right.items made all bits);
   differs = λ values among.
       let one = ap (total values) pushed ∙ total_push values old.right.items made in
       let two = ap (total values) same in
       let three = spells values among in
-      omega (arith, ints, one, two, three, is_over, is_far);
+      omega (arith, ints, one, two, three, is_over, is_far, none);
+}
+
+-- a number is added to what is left over
+pub rest_moved : (L : List VariableLiterals) (old new : Sides) (number : ℤ) → new.left.items ≡ old.left.items → new.right.items ≡ old.right.items → new.rest ≡ old.rest +ℤ number → Moves L old new number
+unfolding difference
+rest_moved L old new number lefts rights rest = record {
+  left = λ all. subst (AreNumbers L) (sym lefts) all;
+  right = λ all. subst (AreNumbers L) (sym rights) all;
+  differs = λ values among.
+      let one = ap (total values) lefts in
+      let two = ap (total values) rights in
+      omega (arith, ints, one, two, rest);
+}
+
+-- the same where all that was left over was put aside
+pub moved_aside : (L : List VariableLiterals) (old mid new : Sides) (number : ℤ) → Moves L old mid (pos 0) → mid.rest ≡ pos 0 → new.left.items ≡ mid.left.items → new.right.items ≡ mid.right.items → new.rest ≡ number → Moves L old new number
+unfolding difference
+moved_aside L old mid new number aside none lefts rights rest = record {
+  left = λ all. subst (AreNumbers L) (sym lefts) (aside.left all);
+  right = λ all. subst (AreNumbers L) (sym rights) (aside.right all);
+  differs = λ values among.
+      let one = ap (total values) lefts in
+      let two = ap (total values) rights in
+      let three = aside.differs values among in
+      omega (arith, ints, one, two, three, none, rest);
+}
+
+-- a number was taken away, and nothing is left over
+pub levels : (L : List VariableLiterals) (old mid new : Sides) (less number : ℤ) → Moves L old mid less → Moves L mid new (pos 0) → new.rest ≡ pos 0 → less ≡ neg_ℤ number → Levels L old new number
+unfolding difference
+levels L old mid new less number one two none is = record {
+  left = λ all. two.left (one.left all);
+  right = λ all. two.right (one.right all);
+  differs = λ values among.
+      let first = one.differs values among in
+      let second = two.differs values among in
+      omega (arith, ints, first, second, none, is);
 }
 
 -- comparisons of numbers with one difference

@@ -1,5 +1,5 @@
 -- Parts of a sum: what the numbers of a variable are worth.
-use Rattle.std.specs.Prelude.{◌≡◌, ℕ, ℤ, pos, ◌%◌, ◌/◌, ◌+ℤ◌, ◌-ℤ◌, List, map}
+use Rattle.std.specs.Prelude.{◌≡◌, ℕ, ℤ, pos, ◌≤ℤ◌, ◌%◌, ◌/◌, ◌+ℤ◌, ◌-ℤ◌, List, map}
 use Rattle.std.specs.List.{All}
 use Rattle.cnf_core.specs.Formula.{Cnf}
 use Rattle.ep_base.specs.Reads.{weighted_sum}
@@ -10,6 +10,10 @@ use Rattle.enc_adder.specs.declared.parts.Step.{Step}
 use Rattle.enc_adder.specs.declared.sides.Sides.{Sides}
 use Rattle.enc_var.specs.Decoding.{VariableLiterals}
 use Rattle.enc_var.specs.Layouts.{literals_at}
+
+-- how far a coefficient is from 0
+abbrev pub IsSizeOfCoefficient : ℤ → Type 0
+IsSizeOfCoefficient size = (pos 0 ≤ℤ size) × (size ≤ℤ pos 9223372036854775808)
 
 -- steps are those of a variable: one for each of its numbers
 abbrev pub AreStepsOf : List VariableLiterals → ℕ → List Step → Type 0
@@ -40,6 +44,12 @@ low_bit n = pos (n % 2)
 -- a step with half of what it is worth
 unfoldable pub half_step : Step → Step
 half_step step = record { value = step.value; worth = step.worth / 2 }
+
+-- A number was added to what two sides come to.
+pub record Moves (layout : List VariableLiterals) (old new : Sides) (number : ℤ) : Type 0 where
+  pub left : AreNumbers layout old.left.items → AreNumbers layout new.left.items
+  pub right : AreNumbers layout old.right.items → AreNumbers layout new.right.items
+  pub differs : (values : List ℤ) → AreOfDomains layout values → difference values new ≡ (difference values old +ℤ number)
 
 -- A number was taken from what is left over, and that added to a side, so that the sides' difference is what it was, less the number.
 pub record Levels (layout : List VariableLiterals) (old new : Sides) (number : ℤ) : Type 0 where

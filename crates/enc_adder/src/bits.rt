@@ -90,13 +90,10 @@ pub(crate) fn constant(alloc: Global, c: Constants, number: u128) -> Result<Bina
 {
     let mut bits = Vec::new(alloc);
     let mut rest = number;
-    for _ in 0..128 {
-        if rest == 0 {
-            return Ok(Binary { bits });
-        }
+    'halving: while rest > 0 {
         let bit = constant_bit(c, rest);
         bits.push(bit)?;
         rest /= 2;
     }
-    Err(Memory)
+    Ok(Binary { bits })
 }

@@ -31,6 +31,6 @@ pub fn encode_con(
         ConKind::Linear(parts, op, number) => {
             add_linear(alloc, layout, f, con.truth, parts, *op, *number)
         }
-        _ => Err(Memory),
+        _ => unreachable!(),
     }
 }

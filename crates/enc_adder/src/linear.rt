@@ -61,7 +61,7 @@ fn told(
         (λ values. compare_holds op (sum_of_parts values parts.now) number)) }
 {
     let c = new_constants(alloc, layout, f)?;
-    let mut sides = sides_of(alloc, layout, f, c.zero, parts)?;
+    let mut sides = sides_of(alloc, layout, f, c, parts)?;
     level(alloc, c, &mut sides, number)?;
     let left = sum_of_numbers(alloc, layout, f, c.zero, sides.left)?;
     let right = sum_of_numbers(alloc, layout, f, c.zero, sides.right)?;

@@ -1,11 +1,12 @@
 //! Parts of sums in binary: a variable with a coefficient that is never negative, as the distance from a number.
 
-ghost use Rattle.std.specs.Prelude.{◌≡◌, ◌<◌, ◌-ℤ◌, ◌*ℤ◌, ℕ, ℤ, pos, true, false, length, map, IfOk, OnOk};
+ghost use Rattle.std.specs.Prelude.{◌≡◌, ◌↔◌, ◌<◌, ◌≤ℤ◌, ◌-ℤ◌, ◌*ℤ◌, ℕ, ℤ, pos, true, false, length, map, IfOk, OnOk};
 ghost use Rattle.std.specs.List.{All};
 ghost use Rattle.enc_adder.specs.Bits.{HasBit, IsBit, IsConstant, SpellsNumber};
-ghost use Rattle.enc_adder.specs.Parts.{AreStepsOf, HaveWorths, half_step, low_bit as low_bit_is};
+ghost use Rattle.enc_adder.specs.Parts.{AreStepsOf, HaveWorths, IsSizeOfCoefficient, half_step, low_bit as low_bit_is};
 ghost use Rattle.enc_atoms.specs.Atoms.{Adds};
 ghost use Rattle.enc_atoms.specs.Steps.{IsReady};
+ghost use Rattle.enc_var.specs.Layouts.{literals_at};
 ghost use Rattle.ep_flat.specs.Cons.{number_at};
 
 use crate::bits::Binary;
@@ -37,20 +38,20 @@ fn low_bit(number: u128) -> i64
     0
 }
 
-/// What a number is worth: its distance from another, so many times.
-fn step_from(value: i64, least: i64, size: i128) -> Result<Step, Memory>
-    ensures value { IfOk result (λ step. step.value ≡ value) }
-    ensures worth { IfOk result (λ step. pos step.worth ≡ size *ℤ (value -ℤ least)) }
+/// What a number is worth: its distance from one that is no greater, so many times.
+fn step_from(value: i64, least: i64, size: i128) -> Step
+    requires above { least ≤ℤ value }
+    requires size { IsSizeOfCoefficient size }
+    ensures value { result.value ≡ value }
+    ensures worth { pos result.worth ≡ size *ℤ (value -ℤ least) }
 {
     let distance = i128::from(value) - i128::from(least);
-    let product = size.checked_mul(distance).ok_or(Memory)?;
-    match u128::try_from(product) {
-        Ok(worth) => Ok(Step { value, worth }),
-        Err(_) => Err(Memory),
-    }
+    let product = size * distance;
+    let worth = product.unsigned_abs();
+    Step { value, worth }
 }
 
-/// The numbers of a variable, each with so many times its distance from another number.
+/// The numbers of a variable, each with so many times its distance from a number that is no greater.
 fn steps_of(
     alloc: Global,
     layout: &Layout,
@@ -58,14 +59,16 @@ fn steps_of(
     least: i64,
     size: i128,
 ) -> Result<Vec<Step>, Memory>
-    requires { var < length layout.now }
+    requires var { var < length layout.now }
+    requires least { All (λ v. least ≤ℤ v) (literals_at layout.now var).domain }
+    requires size { IsSizeOfCoefficient size }
     ensures steps { IfOk result (λ steps. AreStepsOf layout.now var steps.items) }
     ensures worths { IfOk result (λ steps. All (λ step. pos step.worth ≡ size *ℤ (step.value -ℤ least)) steps.items) }
 {
     let values = listed(alloc, layout.domain(var))?;
     let mut steps = Vec::new(alloc);
     for value in &values {
-        let step = step_from(*value, least, size)?;
+        let step = step_from(*value, least, size);
         steps.push(step)?;
     }
     Ok(steps)
@@ -73,7 +76,7 @@ fn steps_of(
 
 /// Whether each step is worth nothing.
 fn are_worthless(steps: &[Step]) -> bool
-    ensures { result ≡ true → All (λ step. step.worth ≡ 0) steps.now }
+    ensures { (result ≡ true) ↔ All (λ step. step.worth ≡ 0) steps.now }
 {
     steps.iter().all(|step| step.worth == 0)
 }
@@ -178,18 +181,17 @@ pub(crate) fn part(
     requires ready { IsReady layout.old f.old }
     requires zero { IsConstant layout.old zero (pos 0) }
     requires var { var < length layout.old }
+    requires least { All (λ v. least ≤ℤ v) (literals_at layout.old var).domain }
+    requires size { IsSizeOfCoefficient size }
     ensures { IfOk result (λ made. SpellsNumber layout.old f.old layout.new f.new
         (λ values. size *ℤ (number_at values var -ℤ least)) made.bits.items) }
 {
     let mut steps = steps_of(alloc, layout, var, least, size)?;
     let mut bits = Vec::new(alloc);
-    for _ in 0..128 {
-        if are_worthless(&steps) {
-            return Ok(Binary { bits });
-        }
+    'halving: while !are_worthless(&steps) {
         let bit = low_bit_of(alloc, layout, f, zero, var, &steps)?;
         bits.push(bit)?;
         steps = halved(alloc, &steps)?;
     }
-    Err(Memory)
+    Ok(Binary { bits })
 }

@@ -1,12 +1,12 @@
 //! The two sides of a comparison: parts with a positive coefficient on the left, those with a negative one on the right.
 
-ghost use Rattle.std.specs.Prelude.{◌≡◌, ◌<◌, ◌+ℤ◌, ◌-ℤ◌, ◌*ℤ◌, ◌<ℤ◌, ◌≤ℤ◌, neg_ℤ, ℤ, List, pos, length, IfOk, OnOk};
+ghost use Rattle.std.specs.Prelude.{◌≡◌, ◌<◌, ◌+ℤ◌, ◌*ℤ◌, ◌<ℤ◌, ◌≤ℤ◌, neg_ℤ, List, pos, length, IfOk, OnOk};
 ghost use Rattle.std.specs.List.{All};
-ghost use Rattle.enc_adder.specs.Bits.{AreNumbers, HasConstants, IsConstant, total};
-ghost use Rattle.enc_adder.specs.Parts.{HasSides, Levels, difference, sum_of_parts};
-ghost use Rattle.enc_atoms.specs.Atoms.{AreOfDomains};
+ghost use Rattle.enc_adder.specs.Bits.{AreNumbers, HasConstants};
+ghost use Rattle.enc_adder.specs.Parts.{HasSides, Levels, Moves, difference, sum_of_parts};
 ghost use Rattle.enc_atoms.specs.Steps.{IsReady};
 ghost use Rattle.enc_var.specs.Decoding.{VariableLiterals};
+ghost use Rattle.enc_var.specs.Layouts.{literals_at};
 ghost use Rattle.ep_flat.specs.Cons.{number_at};
 
 use crate::bits::{Binary, Constants, constant};
@@ -30,6 +30,7 @@ pub struct Sides {
 /// The least number of a variable, and 0 where it has none.
 fn least_of(layout: &Layout, var: u64) -> i64
     requires { var < length layout.now }
+    ensures { All (λ v. result ≤ℤ v) (literals_at layout.now var).domain }
 {
     match layout.domain(var).runs() {
         [] => 0,
@@ -37,14 +38,43 @@ fn least_of(layout: &Layout, var: u64) -> i64
     }
 }
 
-/// What is left over where parts are counted from their least numbers: the least number of one more, so many times.
-fn with_least(rest: i128, coefficient: i64, least: i64) -> Result<i128, Memory>
-    ensures { IfOk result (λ sum. sum ≡ rest +ℤ (coefficient *ℤ least)) }
+/// How far a number is from 0.
+fn distance(number: i128) -> u128
+    ensures above { pos 0 <ℤ number → pos result ≡ number }
+    ensures below { number ≤ℤ pos 0 → pos result ≡ neg_ℤ number }
 {
-    let left = i128::from(coefficient);
-    let right = i128::from(least);
-    let shift = left.checked_mul(right).ok_or(Memory)?;
-    rest.checked_add(shift).ok_or(Memory)
+    number.unsigned_abs()
+}
+
+/// Puts what is left over on the side on which it is positive, so that nothing is left over.
+fn put_aside(alloc: Global, c: Constants, sides: &mut Sides) -> Result<(), Memory>
+    ensures moves { OnOk result ((layout : List VariableLiterals) → HasConstants layout c
+        → Moves layout sides.old sides.new (pos 0)) }
+    ensures none { OnOk result (sides.new.rest ≡ pos 0) }
+{
+    let over = sides.rest;
+    let remains = constant(alloc, c, distance(over))?;
+    sides.rest = 0;
+    if 0 < over {
+        sides.left.push(remains)?;
+    } else {
+        sides.right.push(remains)?;
+    }
+    Ok(())
+}
+
+/// Adds a number to what is left over. Where both together are too far for a word, what was left over goes to its side.
+fn add_rest(alloc: Global, c: Constants, sides: &mut Sides, number: i128) -> Result<(), Memory>
+    ensures { OnOk result ((layout : List VariableLiterals) → HasConstants layout c
+        → Moves layout sides.old sides.new number) }
+{
+    if let Some(sum) = sides.rest.checked_add(number) {
+        sides.rest = sum;
+        return Ok(());
+    }
+    put_aside(alloc, c, sides)?;
+    sides.rest = number;
+    Ok(())
 }
 
 /// Adds a part to the side on which its coefficient is positive.
@@ -52,13 +82,13 @@ fn add_part(
     alloc: Global,
     layout: &mut Layout,
     f: &mut Formula,
-    zero: u64,
+    c: Constants,
     sides: &mut Sides,
     coefficient: i64,
     var: u64,
 ) -> Result<(), Memory>
     requires ready { IsReady layout.old f.old }
-    requires zero { IsConstant layout.old zero (pos 0) }
+    requires constants { HasConstants layout.old c }
     requires var { var < length layout.old }
     requires left { AreNumbers layout.old sides.old.left.items }
     requires right { AreNumbers layout.old sides.old.right.items }
@@ -67,12 +97,13 @@ fn add_part(
 {
     let least = least_of(layout, var);
     let size = i128::from(coefficient);
-    sides.rest = with_least(sides.rest, coefficient, least)?;
+    let shift = size * i128::from(least);
+    add_rest(alloc, c, sides, shift)?;
     if size < 0 {
-        let number = part(alloc, layout, f, zero, var, least, -size)?;
+        let number = part(alloc, layout, f, c.zero, var, least, -size)?;
         sides.right.push(number)?;
     } else {
-        let number = part(alloc, layout, f, zero, var, least, size)?;
+        let number = part(alloc, layout, f, c.zero, var, least, size)?;
         sides.left.push(number)?;
     }
     Ok(())
@@ -83,11 +114,11 @@ pub(crate) fn sides_of(
     alloc: Global,
     layout: &mut Layout,
     f: &mut Formula,
-    zero: u64,
+    c: Constants,
     parts: &[(i64, u64)],
 ) -> Result<Sides, Memory>
     requires ready { IsReady layout.old f.old }
-    requires zero { IsConstant layout.old zero (pos 0) }
+    requires constants { HasConstants layout.old c }
     requires parts { All (λ part. part.1 < length layout.old) parts.now }
     ensures { IfOk result (HasSides layout.old f.old layout.new f.new (λ values. sum_of_parts values parts.now)) }
 {
@@ -97,24 +128,9 @@ pub(crate) fn sides_of(
         rest: 0,
     };
     for part in parts {
-        add_part(alloc, layout, f, zero, &mut sides, part.0, part.1)?;
+        add_part(alloc, layout, f, c, &mut sides, part.0, part.1)?;
     }
     Ok(sides)
-}
-
-/// What is left over, less a number.
-fn without(rest: i128, number: i64) -> Result<i128, Memory>
-    ensures { IfOk result (λ over. over ≡ rest -ℤ number) }
-{
-    rest.checked_sub(i128::from(number)).ok_or(Memory)
-}
-
-/// How far a number is from 0.
-fn distance(number: i128) -> u128
-    ensures above { pos 0 <ℤ number → pos result ≡ number }
-    ensures below { number ≤ℤ pos 0 → pos result ≡ neg_ℤ number }
-{
-    number.unsigned_abs()
 }
 
 /// Takes a number from what is left over, and adds what remains to the side on which it is positive, so that nothing is
@@ -128,13 +144,8 @@ pub(crate) fn level(
     ensures { OnOk result ((layout : List VariableLiterals) → HasConstants layout c
         → Levels layout sides.old sides.new number) }
 {
-    let over = without(sides.rest, number)?;
-    let remains = constant(alloc, c, distance(over))?;
-    sides.rest = 0;
-    if 0 < over {
-        sides.left.push(remains)?;
-    } else {
-        sides.right.push(remains)?;
-    }
+    let less = -i128::from(number);
+    add_rest(alloc, c, sides, less)?;
+    put_aside(alloc, c, sides)?;
     Ok(())
 }

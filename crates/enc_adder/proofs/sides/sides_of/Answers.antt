@@ -1,7 +1,7 @@
 use Rattle.std.proofs.Common.{◌≡◌, ℕ, ℤ, pos, refl, get_or, w64, to_z, of_z, rules}
 use Rattle.std.proofs.lemmas.Int.{to_z-of_z}
 use Rattle.enc_adder.proofs.SideSums.{all_parts, no_side, one_part_more}
-use Rattle.enc_adder.proofs.Widening.{constant_later, ready_later}
+use Rattle.enc_adder.proofs.Widening.{constants_later, ready_later}
 use Rattle.enc_adder.proofs.sides.sides_of.Goals as goal
 
 pub loop-part-init : goal.loop-part-init
@@ -10,8 +10,8 @@ loop-part-init c = no_side c.args.layout.now c.args.f.now (record { left = c.new
 pub add_part-requires-clause-ready : goal.add_part-requires-clause-ready
 add_part-requires-clause-ready c = ready_later _ _ _ _ _ c.loop-part.invariant.widens
 
-pub add_part-requires-clause-zero : goal.add_part-requires-clause-zero
-add_part-requires-clause-zero c = constant_later c.args.layout.now c.loop-part.layout c.args.zero _ c.loop-part.invariant.widens.goes_on.earlier c.requires.zero
+pub add_part-requires-clause-constants : goal.add_part-requires-clause-constants
+add_part-requires-clause-constants c = constants_later c.args.layout.now c.loop-part.layout c.args.c c.loop-part.invariant.widens.goes_on.earlier c.requires.constants
 
 pub loop-part-preserved : goal.loop-part-preserved
 loop-part-preserved c =
