@@ -53,6 +53,6 @@ pub fn encode_con(
             numbers,
             counts,
         ),
-        _ => Err(Memory),
+        _ => unreachable!(),
     }
 }

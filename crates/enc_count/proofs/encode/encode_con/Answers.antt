@@ -8,6 +8,7 @@ use Rattle.enc_atoms.proofs.Naming.{keeps_con, kind_named, truth_named}
 use Rattle.enc_atoms.specs.Steps.{AreOf}
 use Rattle.enc_count.proofs.Counting.{both_fit, kind_fit}
 use Rattle.enc_count.specs.Counts.{AreFit}
+use Rattle.enc_count.proofs.OtherKinds.{other_kind}
 use Rattle.enc_count.proofs.encode.encode_con.Goals as goal
 
 pub encode_different-requires-clause-truth : goal.encode_different-requires-clause-truth
@@ -117,3 +118,6 @@ returns-in-AtMost c =
           (keeps_con c.args.layout.now c.args.f.now c.encode_bounds-in-AtMost.new.layout c.encode_bounds-in-AtMost.new.f (plain_con c.args.con.now) (λ values. unwrap_or (counts_hold Op.AtMost (numbers_of_vars values vars) numbers counts) false) says)
           c.encode_bounds-in-AtMost.ensures;
     }
+
+pub unreachable-requires : goal.unreachable-requires
+unreachable-requires c = other_kind c.args.con.now.kind c.requires.family c.in_default.not-AllDiff c.in_default.not-Gcc c.in_default.not-AtLeast c.in_default.not-AtMost
