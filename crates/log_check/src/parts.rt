@@ -78,7 +78,7 @@ pub(crate) fn least(found: &[Result<Option<u64>, Memory>]) -> Result<Option<u64>
                     return Ok(*bad);
                 }
             }
-            Err(_) => return Err(Memory),
+            Err(refused) => return Err(*refused),
         }
     }
     Ok(None)
