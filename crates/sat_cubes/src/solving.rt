@@ -7,7 +7,7 @@ ghost use Rattle.sat_cubes.specs.Solving.{AreValues, IsSolved};
 
 use cnf_core::{Formula, Log};
 use ep_base::Memory;
-use sat_search::{Outcome, Solver};
+use sat_search::{Outcome, SolveError, Solver};
 use sat_split::{cube_literals, cube_log};
 use std::alloc::Global;
 
@@ -59,8 +59,10 @@ pub fn solve_cube(
     let literals = cube_literals(alloc, cube, vars)?;
     let mut log = cube_log(alloc, formula, &literals)?;
     let mut solver = Solver::new(alloc, &log)?;
-    let Ok(outcome) = solver.solve(budget, &mut log) else {
-        return Err(Memory);
+    let outcome = match solver.solve(budget, &mut log) {
+        Ok(outcome) => outcome,
+        Err(SolveError::Broken) => unreachable!(),
+        Err(SolveError::Memory) => return Err(Memory),
     };
     match outcome {
         Outcome::Sat => Ok(Solved::Sat(values_of(alloc, &solver, formula.vars())?)),

@@ -1,9 +1,11 @@
-use Rattle.std.proofs.Common.{◌≡◌, ℕ, List, IfSome, IsSomeAnd, Ok, ap, ◌∙◌, subst, arith}
+use Rattle.std.proofs.Common.{◌≡◌, ℕ, List, IfSome, IsSomeAnd, Ok, Err, ap, ◌∙◌, subst, sym, arith}
+use Rattle.std.proofs.lemmas.Bool.{false≢true}
 use Rattle.cnf_core.specs.Literal.{Literal}
 use Rattle.cnf_core.specs.Clauses.{Satisfies}
 use Rattle.cnf_core.specs.Events.{givens, nonempty_steps}
-use Rattle.sat_search.specs.View.{value_in}
+use Rattle.sat_search.specs.View.{SolverView, value_in}
 use Rattle.sat_search.specs.declared.outcome.Outcome.{Outcome}
+use Rattle.sat_search.specs.declared.outcome.SolveError.{SolveError}
 use Rattle.sat_split.specs.Cubes.{cube_literals, cube_log}
 use Rattle.sat_cubes.specs.Solving.{AreValues}
 use Rattle.sat_cubes.proofs.Models.{some_and, begins_given, begins_without_steps, model_found, given_in_cube, refuted_is, spent_is}
@@ -49,3 +51,9 @@ returns c =
     spent_is f (cube_literals c.args.cube c.args.vars.now) c.args.budget c.in_ok-log.log c.solve.new.log
     (c.in_ok-log.ensures ∙ ap (cube_log f.clauses) (c.deref.ensures.value ∙ c.in_ok-literals.ensures))
     c.solve.ensures.steps c.solve.ensures.sound (c.solve.ensures.spent ends) (c.solve.ensures.spent_open ends)
+
+pub unreachable-requires : goal.unreachable-requires
+unreachable-requires c =
+    false≢true
+    (sym (ap (λ (s : SolverView). s.broken) c.in_ok-solver.ensures.made)
+    ∙ c.solve.ensures.broken.0 (c.in-Err-Broken.is ∙ ap (λ (e : SolveError). Err e) c.in-Err-Broken.field-0-is))
