@@ -1,7 +1,7 @@
 -- How a search goes on: the log with more events, what the best so far leaves, and the three ends.
 use Rattle.std.proofs.Common.{◌≡◌, ◌↔◌, ℕ, ◌-◌, ◌<◌, ◌≤◌, suc, ℤ, Bool, true, false, List, [], ◌∷◌, ◌++◌, length, Option, None, Some, refl, sym, ap, subst, ◌∙◌, arith, append_assoc}
 use Rattle.std.proofs.lemmas.Int.{ints}
-use Rattle.std.specs.Prelude.{IfSome, IsErr, IsSome, IsSomeAnd, IsTrue, MatchOption, Ok, Result, filter, unwrap_or, drop, map, option_map, slice_get, take}
+use Rattle.std.specs.Prelude.{◌≢◌, Err, IfSome, IsErr, IsSome, IsSomeAnd, IsTrue, MatchOption, Ok, Result, filter, unwrap_or, drop, map, option_map, slice_get, take}
 use Rattle.std.specs.List.{All, AllPairs, AllZip, Contains}
 use Rattle.std.proofs.lemmas.Bool.{false≢true}
 use Rattle.std.proofs.lemmas.List.{append-nil}
@@ -435,6 +435,10 @@ kept_some solver clauses h = by solver.kept h
 pub stays_whole : (broken : Bool) (outcome : Outcome) (r : Result Outcome SolveError) → (broken ≡ true → IsErr r) → r ≡ Ok outcome → broken ≡ false
 stays_whole false outcome r h is = refl
 stays_whole true outcome r h is = absurd (false≢true (subst (λ (q : Result Outcome SolveError). IsErr q) is (h refl)))
+
+-- a call of a solver that no call broke isn't refused for an earlier one
+pub not_broken : {A : Type 0} (broken : Bool) (r : Result A SolveError) (error : SolveError) → broken ≡ false → (r ≡ Err SolveError.Broken → broken ≡ true) → r ≡ Err error → error ≢ SolveError.Broken
+not_broken broken r error whole breaks is = λ e. false≢true (sym whole ∙ breaks (is ∙ ap Err e))
 
 -- the literals mean what they say under an assignment that satisfies the givens
 pub means_now : (p : ProblemState) (budget : ℕ) (old now : LogState) (best : Option (ℤ × List ℤ)) (s : ℕ → Bool) → CanSearch p old → IsPursued p budget old now best → Satisfies s (givens now.events) → MapMeans s p.layout p.variables

@@ -9,6 +9,7 @@ ghost use Rattle.sat_search.specs.Logs.{IsSound};
 
 use crate::decoding::read_back;
 use crate::problem::Problem;
+use crate::refusals::refusal;
 use cnf_core::{Clause, Log};
 use enc_var::{Known, Layout};
 use ep_base::Memory;
@@ -50,8 +51,8 @@ pub fn block(alloc: Global, p: &mut Problem, log: &mut Log) -> Result<Vec<i64>, 
     let vars = p.map.cells.as_slice();
     let cells = read_back(alloc, &p.layout, &p.solver, vars)?;
     let clause = other_numbers(alloc, &p.layout, vars, cells.as_slice())?;
-    let Ok(()) = p.solver.add_given(clause, log) else {
-        return Err(Memory);
-    };
-    Ok(cells)
+    match p.solver.add_given(clause, log) {
+        Ok(()) => Ok(cells),
+        Err(error) => Err(refusal(error)),
+    }
 }

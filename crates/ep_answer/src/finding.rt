@@ -13,6 +13,7 @@ use crate::blocking::block;
 use crate::decoding::read_back;
 use crate::improving::improve;
 use crate::problem::Problem;
+use crate::refusals::refusal;
 use cnf_core::Log;
 use ep_base::Memory;
 use sat_search::Outcome;
@@ -37,8 +38,9 @@ pub fn find_one(
     ensures problem { plain_problem p.new ≡ record (plain_problem p.old) { solver = p.new.solver } }
     ensures clauses { p.new.solver.broken ≡ false → p.new.solver.clauses ≡ clauses_of log.new.events }
 {
-    let Ok(outcome) = p.solver.solve(budget, log) else {
-        return Err(Memory);
+    let outcome = match p.solver.solve(budget, log) {
+        Ok(outcome) => outcome,
+        Err(error) => return Err(refusal(error)),
     };
     match outcome {
         Outcome::Sat => {
@@ -76,8 +78,9 @@ pub fn optimise(
     };
     let mut best: Option<(i64, Vec<i64>)> = None;
     'solutions: loop {
-        let Ok(outcome) = p.solver.solve(budget, log) else {
-            return Err(Memory);
+        let outcome = match p.solver.solve(budget, log) {
+            Ok(outcome) => outcome,
+            Err(error) => return Err(refusal(error)),
         };
         match outcome {
             Outcome::Sat => best = Some(improve(alloc, p, sense, var, log)?),
@@ -118,8 +121,9 @@ pub fn enumerate(
 {
     let mut found: Vec<Vec<i64>> = Vec::new(alloc);
     'solutions: while (found.len() as u64) < most {
-        let Ok(outcome) = p.solver.solve(budget, log) else {
-            return Err(Memory);
+        let outcome = match p.solver.solve(budget, log) {
+            Ok(outcome) => outcome,
+            Err(error) => return Err(refusal(error)),
         };
         match outcome {
             Outcome::Sat => found.push(block(alloc, p, log)?)?,

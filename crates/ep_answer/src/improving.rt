@@ -13,6 +13,7 @@ ghost use Rattle.sat_search.specs.Logs.{IsSound};
 
 use crate::decoding::{hull, number_of, read_back};
 use crate::problem::Problem;
+use crate::refusals::refusal;
 use cnf_core::{Clause, Log};
 use enc_var::{Known, Layout};
 use ep_base::{Memory, Sense};
@@ -100,8 +101,8 @@ pub fn improve(
     let number = number_of(&p.layout, &p.solver, var);
     let cells = read_back(alloc, &p.layout, &p.solver, p.map.cells.as_slice())?;
     let clause = better_clause(alloc, &p.layout, sense, var, number)?;
-    let Ok(()) = p.solver.add_given(clause, log) else {
-        return Err(Memory);
-    };
-    Ok((number, cells))
+    match p.solver.add_given(clause, log) {
+        Ok(()) => Ok((number, cells)),
+        Err(error) => Err(refusal(error)),
+    }
 }

@@ -8,6 +8,7 @@ mod finding;
 mod improving;
 mod laws;
 mod problem;
+mod refusals;
 
 pub use answers::{CellAnswer, CellListing, End};
 pub use decoding::read_back;

@@ -5,6 +5,7 @@ use Rattle.ep_answer.specs.Problems.{AllMean}
 use Rattle.ep_answer.specs.Searches.{kept_values}
 use Rattle.ep_answer.proofs.Listing.{are_numbers}
 use Rattle.ep_answer.proofs.OtherNumbers.{long_numbers}
+use Rattle.ep_answer.proofs.Searching.{not_broken}
 use Rattle.ep_answer.proofs.blocking.block.Goals as goal
 
 pub other_numbers-requires-clause-numbers : goal.other_numbers-requires-clause-numbers
@@ -19,3 +20,6 @@ pub other_numbers-requires-clause-long : goal.other_numbers-requires-clause-long
 other_numbers-requires-clause-long c =
     ap length (c.as_slice.ensures.value ∙ c.in_ok-cells.ensures)
     ∙ long_numbers (decoded_values c.args.p.now.layout (kept_values c.args.p.now.solver)) c.as_slice-vars.result.now
+
+pub refusal-requires : goal.refusal-requires
+refusal-requires c = not_broken c.args.p.now.solver.broken c.add_given.result c.in-Err.error c.requires.is_whole c.add_given.ensures.broken.0 c.in-Err.is

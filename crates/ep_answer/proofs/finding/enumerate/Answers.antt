@@ -5,7 +5,7 @@ use Rattle.cnf_core.specs.Events.{givens}
 use Rattle.ep_answer.specs.AnswerViews.{plain_problem}
 use Rattle.ep_answer.specs.Problems.{ProblemState}
 use Rattle.ep_answer.specs.Searches.{HasCells, IsBlocked, ListsNumbers, kept_values}
-use Rattle.ep_answer.proofs.Searching.{kept_satisfies, stays_whole}
+use Rattle.ep_answer.proofs.Searching.{kept_satisfies, not_broken, stays_whole}
 use Rattle.ep_answer.proofs.Listing.{blocked_same, has_cells, listed_first, listed_more, listed_on, lists, right_complete, right_spent, right_stopped}
 use Rattle.ep_answer.proofs.finding.enumerate.Goals as goal
 
@@ -94,3 +94,6 @@ returns-clause-lists c =
     let all : length found ≡ c.args.most = omega (arith, length-map c.solutions.found.items (λ cells. cells.items)) in
     lists p c.args.budget c.args.most old c.solutions.log found _ c.requires c.solutions.invariant.listed
     (right_stopped p c.args.budget c.args.most c.solutions.log found all)
+
+pub refusal-requires : goal.refusal-requires
+refusal-requires c = not_broken c.solutions.p.solver.broken c.solve.result c.in-Err.error c.solutions.invariant.whole c.solve.ensures.broken.0 c.in-Err.is

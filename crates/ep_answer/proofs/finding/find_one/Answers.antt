@@ -6,7 +6,7 @@ use Rattle.sat_search.proofs.Continued.{sound_givens}
 use Rattle.ep_answer.specs.AnswerViews.{plain_problem}
 use Rattle.ep_answer.specs.Problems.{AllMean}
 use Rattle.ep_answer.specs.Searches.{kept_values}
-use Rattle.ep_answer.proofs.Searching.{answers_end, answers_found, answers_spent, kept_satisfies, means_now, pursued_first, pursued_on, within_any}
+use Rattle.ep_answer.proofs.Searching.{answers_end, answers_found, answers_spent, kept_satisfies, means_now, not_broken, pursued_first, pursued_on, within_any}
 use Rattle.ep_answer.proofs.finding.find_one.Goals as goal
 
 pub solve-requires-clause-sound : goal.solve-requires-clause-sound
@@ -55,3 +55,6 @@ returns-in-Spent-clause-answers c =
     let spent = c.in-Ok.is ∙ ap Ok c.in-Spent.is in
     answers_spent p c.args.budget old now None c.requires.can_search.is_base (pursued_on p c.args.budget old old now None first c.solve.ensures.steps c.solve.ensures.sound c.solve.ensures.within)
     (c.solve.ensures.spent spent) (c.solve.ensures.spent_open spent)
+
+pub refusal-requires : goal.refusal-requires
+refusal-requires c = not_broken c.args.p.now.solver.broken c.solve.result c.in-Err.error c.requires.can_search.is_whole c.solve.ensures.broken.0 c.in-Err.is

@@ -5,7 +5,7 @@ use Rattle.ep_answer.specs.Answered.{AnswersCells, Improves}
 use Rattle.ep_answer.specs.AnswerViews.{plain_problem}
 use Rattle.ep_answer.specs.Searches.{HasFound, IsImproved, kept_values}
 use Rattle.ep_answer.specs.Problems.{ProblemState}
-use Rattle.ep_answer.proofs.Searching.{answers_end, answers_spent, falls, has_found, improved_same, improves_end, improves_spent, kept_satisfies, objective_there, pursued_first, pursued_more, pursued_on, stays_whole}
+use Rattle.ep_answer.proofs.Searching.{answers_end, answers_spent, falls, has_found, improved_same, improves_end, improves_spent, kept_satisfies, not_broken, objective_there, pursued_first, pursued_more, pursued_on, stays_whole}
 use Rattle.ep_answer.proofs.finding.optimise.Goals as goal
 
 pub solutions-init : goal.solutions-init
@@ -109,3 +109,6 @@ returns-in-Spent-clause-improves c =
     let best : Option (ℤ × List ℤ) = option_map (λ one. (one.0, one.1.items)) c.solutions.best in
     improves_spent p c.args.budget old now best c.requires.can_search.is_base
     (pursued_on p c.args.budget old c.solutions.log now best c.solutions.invariant.pursued c.solve.ensures.steps c.solve.ensures.sound c.solve.ensures.within)
+
+pub refusal-requires : goal.refusal-requires
+refusal-requires c = not_broken c.solutions.p.solver.broken c.solve.result c.in-Err.error c.solutions.invariant.whole c.solve.ensures.broken.0 c.in-Err.is
