@@ -16,7 +16,7 @@ ghost use Rattle.ep_instance_parts.specs.Steps.{fitted_said};
 use super::errors::BindError;
 use super::fitting::fit;
 use super::shapes::Shape;
-use ep_base::{Name, Runs};
+use ep_base::{Memory, Name, Runs};
 use ep_eval::Env;
 use ep_tree::{Entry, Scalar, Value, ValueType};
 use std::alloc::Global;
@@ -56,7 +56,7 @@ fn outside(alloc: Global, name: &Name) -> BindError
 {
     match Name::new(alloc, name.text()) {
         Ok(name) => BindError::Outside(name),
-        Err(_) => BindError::Memory,
+        Err(Memory) => BindError::Memory,
     }
 }
 
@@ -66,7 +66,7 @@ pub fn missing(alloc: Global, name: &Name) -> BindError
 {
     match Name::new(alloc, name.text()) {
         Ok(name) => BindError::Missing(name),
-        Err(_) => BindError::Memory,
+        Err(Memory) => BindError::Memory,
     }
 }
 
