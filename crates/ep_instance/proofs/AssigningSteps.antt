@@ -1,11 +1,12 @@
 -- Values that an assignment gives decision variables: fitted, put into an environment, and fitted again.
 use Rattle.std.proofs.Common.{◌≡◌, ◌∙◌, ℕ, zero, suc, ◌+◌, ◌-◌, ◌<◌, ◌≤◌, Bool, true, false, ◌&&◌, ◌||◌, ℤ, List, [], ◌∷◌, map, length, drop, get_or, Option, Some, None, option_map, refl, sym, ap, subst, arith, if◌then◌else◌, bytes_eq, IsTrue}
-use Rattle.std.specs.Prelude.{option_and_then, Result, Ok, Err, IfOk, OnErr}
+use Rattle.std.specs.Prelude.{is_some, option_and_then, Result, Ok, Err, IfOk, OnErr}
 use Rattle.std.specs.List.{All, list_all, list_any}
 use Rattle.std.proofs.lemmas.List.{drop_more}
-use Rattle.std.proofs.lemmas.List.Elements.{All-head, All-tail}
+use Rattle.std.proofs.lemmas.List.Elements.{All-cons, All-head, All-nil, All-tail}
 use Rattle.std.specs.Ordering.{int_eq}
 use Rattle.ep_base.specs.Numbers.{has_number}
+use Rattle.ep_base.specs.Options.{on_both}
 use Rattle.ep_base.specs.declared.errors.Memory.{Memory}
 use Rattle.ep_base.specs.declared.names.Name.{Name}
 use Rattle.ep_tree.proofs.TypedFitting.{fitted_typed}
@@ -13,7 +14,7 @@ use Rattle.ep_tree.proofs.TypedParts.{truths_differ}
 use Rattle.ep_tree.specs.Binding.{Find}
 use Rattle.ep_tree.specs.Environments.{Env, has_value, shape_type}
 use Rattle.ep_tree.specs.Names.{put, put_all}
-use Rattle.ep_tree.specs.Solutions.{Assigned, NamedValue, find_type, fitted_find, found_values, named_in}
+use Rattle.ep_tree.specs.Solutions.{Assigned, Found, NamedValue, find_type, fitted_find, found_values, named_in}
 use Rattle.ep_tree.specs.TypedValues.{IsOf, IsOfDims, is_number_of}
 use Rattle.ep_tree.specs.Types.{of_scalar, scalar_of}
 use Rattle.ep_tree.specs.Values.{ValueTree, fitted}
@@ -27,7 +28,7 @@ use Rattle.ep_instance_parts.specs.Elements.{PassesAs, element_passes}
 use Rattle.ep_instance_parts.specs.Instances.{find_of}
 use Rattle.ep_instance_parts.specs.declared.elements.Elements.{Within}
 use Rattle.ep_instance_parts.specs.declared.instances.Find.{Find as KeptFind}
-use Rattle.ep_instance.specs.Assigning.{IsUnder, SetsFind}
+use Rattle.ep_instance.specs.Assigning.{HasFit, IsUnder, SetsFind}
 
 -- ---- one value
 
@@ -89,6 +90,32 @@ pub named_nowhere : (name : Name) → named_in [] name ≡ None
 unfolding named_in
 named_nowhere name = refl
 
+-- ---- values that an assignment gives, and that fit
+
+pub entry_there : {A : Type 0} (g : A → NamedValue) (r : Option A) (f : Find) (a : Assigned) → option_map g r ≡ named_in a f.name → HasFit a f → ((x : A) → r ≡ Some x → ⊥) → ⊥
+entry_there g None f a is fits none = absurd (truths_differ (subst (λ o. is_some (option_and_then (fitted_find f) o) ≡ true) (sym is) fits))
+entry_there g (Some x) f a is fits none = none x refl
+
+pub fit_there : (f : Find) (o : Option NamedValue) (g : NamedValue) (fit : Option Value) → o ≡ Some g → option_map value_tree fit ≡ fitted (scalar_of g.ty) f.scalar (has_number f.values) f.indices g.value → is_some (option_and_then (fitted_find f) o) ≡ true
+    → ((v : Value) → fit ≡ Some v → ⊥) → ⊥
+unfolding fitted_find
+fit_there f o g None e is fits none =
+    absurd (truths_differ (subst (λ w. is_some w ≡ true) (sym is) (subst (λ p. is_some (option_and_then (fitted_find f) p) ≡ true) e fits)))
+fit_there f o g (Some v) e is fits none = none v refl
+
+-- where all decision variables have values, each has one
+pub all_fit : (fs : List Find) (a : Assigned) (found : Found) → found_values fs a ≡ Some found → All (HasFit a) fs
+unfolding found_values on_both
+all_fit [] a found e = All-nil (HasFit a)
+all_fit (f ∷ fs) a found e =
+    by (option_and_then (fitted_find f) (named_in a f.name)) (found_values fs a) refl refl e (λ more others. all_fit fs a more others)
+  where
+    by : (o : Option ValueTree) (rest : Option Found) → option_and_then (fitted_find f) (named_in a f.name) ≡ o → found_values fs a ≡ rest → on_both o rest (λ v more. Some ((f.name, has_value (find_type f) v) ∷ more)) ≡ Some found
+        → ((more : Found) → found_values fs a ≡ Some more → All (HasFit a) fs) → All (HasFit a) (f ∷ fs)
+    by None rest is others h again = absurd (cc)
+    by (Some v) None is others h again = absurd (cc)
+    by (Some v) (Some more) is others h again = All-cons (HasFit a) f fs (ap is_some is) (again more others)
+
 -- ---- decision variables that are set
 
 -- what holds at an error
@@ -133,17 +160,14 @@ under_step finds k f es a before now after is low high e u s =
     let set : SetsFind (find_of f) a now after = subst (λ x. SetsFind (find_of f) x now after) e s in
     subst (λ xs. IsUnder (map find_of xs) a before after) (sym cut) (under_more (find_of f) (map find_of (drop k finds)) a before now after u set)
 
--- the values of a decision variable are of its scalar
-values_from : (finds : List KeptFind) (k : ℕ) (d : KeptFind) → k < length finds → All (λ f. IsTrue (list_all (is_number_of f.scalar) f.values)) (map find_of finds)
-    → IsTrue (list_all (is_number_of (scalar_of (get_or finds k d).ty)) (get_or finds k d).values)
-values_from [] k d low h = absurd (omega (arith, low))
-values_from (f ∷ fs) zero d low h = All-head (λ f. IsTrue (list_all (is_number_of f.scalar) f.values)) (find_of f) (map find_of fs) h
-values_from (f ∷ fs) (suc k) d low h = values_from fs k d (omega (arith, low)) (All-tail (λ f. IsTrue (list_all (is_number_of f.scalar) f.values)) (find_of f) (map find_of fs) h)
+-- what holds of each decision variable holds of one that was read
+holds_from : (P : Find → Type 0) (finds : List KeptFind) (k : ℕ) (d : KeptFind) → k < length finds → All P (map find_of finds) → P (find_of (get_or finds k d))
+holds_from P [] k d low h = absurd (omega (arith, low))
+holds_from P (f ∷ fs) zero d low h = All-head P (find_of f) (map find_of fs) h
+holds_from P (f ∷ fs) (suc k) d low h = holds_from P fs k d (omega (arith, low)) (All-tail P (find_of f) (map find_of fs) h)
 
--- The same of one that was read.
-pub values_at : (finds : List KeptFind) (k : ℕ) (f : KeptFind) → f ≡ get_or finds k f → k < length finds → All (λ f. IsTrue (list_all (is_number_of f.scalar) f.values)) (map find_of finds)
-    → IsTrue (list_all (is_number_of (scalar_of f.ty)) f.values)
-values_at finds k f is low h = subst (λ x. IsTrue (list_all (is_number_of (scalar_of x.ty)) x.values)) (sym is) (values_from finds k f low h)
+pub holds_at : (P : Find → Type 0) (finds : List KeptFind) (k : ℕ) (f : KeptFind) → f ≡ get_or finds k f → k < length finds → All P (map find_of finds) → P (find_of f)
+holds_at P finds k f is low h = subst (λ x. P (find_of x)) (sym is) (holds_from P finds k f low h)
 
 -- all decision variables
 pub under_end : (finds : List KeptFind) (k : ℕ) (a : Assigned) (before after : Env) → k ≡ 0 → IsUnder (map find_of (drop k finds)) a before after → IsUnder (map find_of finds) a before after

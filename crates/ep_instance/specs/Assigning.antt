@@ -1,5 +1,5 @@
 -- What names stand for under an assignment.
-use Rattle.std.specs.Prelude.{◌≡◌, ◌||◌, false, List, ℤ, Option, Some, None, is_none, is_some, option_and_then}
+use Rattle.std.specs.Prelude.{◌≡◌, ◌||◌, false, IsSome, List, ℤ, Option, Some, None, is_none, is_some, option_and_then}
 use Rattle.ep_base.specs.declared.names.Name.{Name}
 use Rattle.ep_base.specs.declared.operators.Sense.{Sense}
 use Rattle.ep_tree.specs.Binding.{Find, Instance}
@@ -11,6 +11,10 @@ use Rattle.ep_tree.specs.Solutions.{Assigned, Found, Judgement, find_type, fitte
 use Rattle.ep_tree.specs.Trees.{ExprTree}
 use Rattle.ep_tree.specs.Values.{ValueTree}
 use Rattle.ep_tree.specs.declared.values.Mode.{Mode}
+
+-- an assignment gives a decision variable a value that fits its domain
+abbrev pub HasFit : Assigned → Find → Type 0
+HasFit a f = IsSome (option_and_then (fitted_find f) (named_in a f.name))
 
 -- A decision variable stands for the value that an assignment gives it, fitted into its domain.
 pub record SetsFind (f : Find) (a : Assigned) (before after : Env) : Type 0 where

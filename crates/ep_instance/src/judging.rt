@@ -20,7 +20,7 @@ ghost use Rattle.ep_instance.specs.Judgements.{IsWithinLimits, judgement_of};
 use super::values::set_finds;
 use ep_base::{Memory, Name};
 use ep_eval::{Env, EvalError, Seen, evaluate};
-use ep_instance_parts::{Instance, is_true, number_after, seen_number};
+use ep_instance_parts::{Instance, is_true, seen_number};
 use ep_tree::{Assignment, Expr, Objective};
 use std::alloc::Global;
 
@@ -70,8 +70,7 @@ fn first_violated(alloc: Global, env: &Env, clauses: &[Expr]) -> Result<Option<u
         if !is_true(&seen) {
             return Ok(Some(number));
         }
-        let next = number_after(number)?;
-        number = next;
+        number += 1;
     }
     Ok(None)
 }

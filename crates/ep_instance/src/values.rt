@@ -10,7 +10,7 @@ ghost use Rattle.ep_tree.specs.Values.{fitted};
 ghost use Rattle.ep_tree.specs.Views.{named_value, value_tree};
 ghost use Rattle.ep_eval.specs.Known.{env_of};
 ghost use Rattle.ep_instance_parts.specs.Instances.{find_of};
-ghost use Rattle.ep_instance.specs.Assigning.{AgreeElsewhere, IsUnder, SetsFind};
+ghost use Rattle.ep_instance.specs.Assigning.{AgreeElsewhere, HasFit, IsUnder, SetsFind};
 
 use ep_base::{Memory, Name};
 use ep_eval::Env;
@@ -55,18 +55,17 @@ fn entry_named<'a>(entries: &'a [Entry], name: &Name) -> Option<&'a Entry>
 /// A decision variable stands for the value that an assignment gives it, which fits.
 fn set_find(alloc: Global, env: &mut Env, find: &Find, entries: &[Entry]) -> Result<(), Memory>
     requires values { IsTrue (list_all (is_number_of (types.scalar_of find.now.ty)) find.now.values) }
+    requires fits { HasFit (map named_value entries.now) (find_of find.now) }
     ensures mode { env.new.mode ≡ env.old.mode }
     ensures unchanged { OnErr result (env.new ≡ env.old) }
     ensures known { OnOk result (SetsFind (find_of find.now) (map named_value entries.now)
         (env_of env.old) (env_of env.new)) }
 {
     let Some(entry) = entry_named(entries, &find.name) else {
-        return Err(Memory);
+        unreachable!()
     };
     let fit = fitted_find(alloc, find, entry.ty, &entry.value)?;
-    let Some(value) = fit else {
-        return Err(Memory);
-    };
+    let Some(value) = fit else { unreachable!() };
     let name = Name::new(alloc, find.name.text())?;
     let ty = find.ty;
     env.set(Entry { name, ty, value })?;
@@ -82,6 +81,7 @@ pub fn set_finds(
     entries: &[Entry],
 ) -> Result<(), Memory>
     requires values { All (λ f. IsTrue (list_all (is_number_of f.scalar) f.values)) (map find_of finds.now) }
+    requires fits { All (HasFit (map named_value entries.now)) (map find_of finds.now) }
     ensures mode { env.new.mode ≡ env.old.mode }
     ensures known { OnOk result (IsUnder (map find_of finds.now) (map named_value entries.now)
         (env_of env.old) (env_of env.new)) }

@@ -2,7 +2,7 @@ use Rattle.std.proofs.Common.{◌∙◌, ap, sym, map, option_map}
 use Rattle.ep_eval.specs.Known.{env_of}
 use Rattle.ep_tree.specs.Views.{named_value, value_tree}
 use Rattle.ep_instance_parts.specs.Instances.{find_of}
-use Rattle.ep_instance.proofs.AssigningSteps.{at_error, find_given, find_set, find_typed}
+use Rattle.ep_instance.proofs.AssigningSteps.{at_error, entry_there, find_given, find_set, find_typed, fit_there}
 use Rattle.ep_instance.proofs.values.set_find.Goals as goal
 
 pub set-requires : goal.set-requires
@@ -23,3 +23,13 @@ returns-clause-known c =
 
 pub returns-in_err-set-clause-unchanged : goal.returns-in_err-set-clause-unchanged
 returns-in_err-set-clause-unchanged c = at_error _ c.from_residual-in_err-set.result c.in_err-set.ensures.unchanged
+
+pub unreachable-requires : goal.unreachable-requires
+unreachable-requires c =
+    entry_there (λ e. named_value e.now) c.entry_named.result (find_of c.args.find.now) (map named_value c.args.entries.now) c.entry_named.ensures c.requires.fits c.in_default.not-Some
+
+pub unreachable-requires-in_default-fit : goal.unreachable-requires-in_default-fit
+unreachable-requires-in_default-fit c =
+    let f = find_of c.args.find.now in
+    let given = sym c.entry_named.ensures ∙ ap (option_map (λ e. named_value e.now)) c.in-Some.is in
+    fit_there f _ _ c.in_ok-fit.fit given c.in_ok-fit.ensures c.requires.fits c.in_default-fit.not-Some

@@ -1,10 +1,12 @@
-use Rattle.std.proofs.Common.{◌∙◌, ◌-◌, ap, refl, sym, subst, map, arith}
+use Rattle.std.proofs.Common.{◌<◌, ◌∙◌, ◌-◌, IsTrue, ap, refl, sym, subst, map, arith, length}
+use Rattle.std.specs.List.{list_all}
 use Rattle.std.proofs.Math.ListN.{drop_of_length-le}
 use Rattle.ep_eval.specs.Known.{env_of}
+use Rattle.ep_tree.specs.TypedValues.{is_number_of}
 use Rattle.ep_tree.specs.Views.{named_value}
 use Rattle.ep_instance_parts.specs.Instances.{find_of}
-use Rattle.ep_instance.specs.Assigning.{IsUnder}
-use Rattle.ep_instance.proofs.AssigningSteps.{under_end, under_none, under_step, values_at}
+use Rattle.ep_instance.specs.Assigning.{HasFit, IsUnder}
+use Rattle.ep_instance.proofs.AssigningSteps.{holds_at, under_end, under_none, under_step}
 use Rattle.ep_instance.proofs.JudgingSteps.{some_elsewhere}
 use Rattle.ep_instance.proofs.values.set_finds.Goals as goal
 
@@ -20,7 +22,10 @@ loop-left-init c =
 
 pub set_find-requires : goal.set_find-requires
 set_find-requires c =
-    record { values = values_at c.args.finds.now (c.loop-left.left - 1) c.index-finds-left.result c.index-finds-left.is (omega (arith, c.loop-left.invariant.0, c.loop-left-test.true)) c.requires.values }
+    let low : c.loop-left.left - 1 < length c.args.finds.now = omega (arith, c.loop-left.invariant.0, c.loop-left-test.true) in record {
+      values = holds_at (λ f. IsTrue (list_all (is_number_of f.scalar) f.values)) c.args.finds.now (c.loop-left.left - 1) c.index-finds-left.result c.index-finds-left.is low c.requires.values;
+      fits = holds_at (HasFit (map named_value c.args.entries.now)) c.args.finds.now (c.loop-left.left - 1) c.index-finds-left.result c.index-finds-left.is low c.requires.fits;
+    }
 
 pub loop-left-preserved : goal.loop-left-preserved
 loop-left-preserved c =

@@ -4,12 +4,18 @@ use Rattle.ep_eval.specs.Known.{env_of}
 use Rattle.ep_tree.specs.TypedValues.{is_number_of}
 use Rattle.ep_tree.specs.Views.{assigned, named_value}
 use Rattle.ep_instance_parts.specs.Instances.{plain_instance, instance_mode}
+use Rattle.ep_instance.specs.Assigning.{HasFit}
+use Rattle.ep_instance.proofs.AssigningSteps.{all_fit}
 use Rattle.ep_instance.proofs.JudgingSteps.{agree_again, judged_after, passes_after, under_given}
 use Rattle.ep_instance.proofs.judging.Judge.judge.Goals as goal
 
 pub set_finds-requires : goal.set_finds-requires
 set_finds-requires c =
-    record { values = subst (λ fs. All (λ f. IsTrue (list_all (is_number_of f.scalar) f.values)) fs) (sym c.finds.ensures) c.requires.closed.values }
+    record {
+      values = subst (λ fs. All (λ f. IsTrue (list_all (is_number_of f.scalar) f.values)) fs) (sym c.finds.ensures) c.requires.closed.values;
+      fits = subst (λ fs. All (HasFit (map named_value c.deref.result.now)) fs) (sym c.finds.ensures)
+          (subst (λ a. All (HasFit a) (plain_instance c.args.instance.now).finds) (sym (ap (map named_value) c.deref.ensures.value)) (all_fit (plain_instance c.args.instance.now).finds (assigned c.args.a.now) c.requires.fits.0 c.requires.fits.1.values));
+    }
 
 pub returns-in_err-set_finds-clause-own : goal.returns-in_err-set_finds-clause-own
 returns-in_err-set_finds-clause-own c =
