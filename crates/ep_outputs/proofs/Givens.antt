@@ -41,6 +41,12 @@ base-left events base clauses e h =
     let counts = base-counts base events h.there h.givens in
     omega (arith, n, counts)
 
+-- no more givens than events
+pub fewer-givens : (events : List LogEvent) → length (givens events) ≤ length events
+fewer-givens [] = omega arith
+fewer-givens (given clause ∷ events) = let rest = fewer-givens events in omega (arith, rest)
+fewer-givens (step clause hints ∷ events) = let rest = fewer-givens events in omega (arith, rest)
+
 -- ---- the loop that takes the givens out of events
 
 -- the givens so far, and those of the events that are left

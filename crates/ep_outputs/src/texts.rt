@@ -1,6 +1,6 @@
 //! The text of what was given to the solver.
 
-ghost use Rattle.std.specs.Prelude.{◌≡◌, ◌<◌, ◌≤◌, ◌^◌, ℕ, All, IfOk, OnErr, length, map};
+ghost use Rattle.std.specs.Prelude.{◌≡◌, ◌<◌, ◌≤◌, ◌^◌, ℕ, All, IfOk, length, map};
 ghost use Rattle.cnf_core.specs.Events.{givens, plain_event};
 ghost use Rattle.cnf_core.specs.Literal.{VariablesUpTo};
 ghost use Rattle.cnf_core.specs.declared.lit.TheConstants.{MOST_VARIABLE};
@@ -22,30 +22,18 @@ pub fn formula_text(alloc: Global, log: &Log) -> Result<Vec<u8>, Memory>
     let vars = fewest_variables(&clauses, log.notes());
     let formula = formula_of(alloc, &clauses, vars)?;
     let _names = formula.clauses();
-    let added = few(added_number(log, &clauses))?;
+    let added = added_number(log, &clauses);
     write_cnf(alloc, &formula, log.notes(), added)
 }
 
-/// The most clauses that a line can say were added. Nobody has the memory for so many.
-const MOST_ADDED: u64 = 999_999_999_999_999_999;
-
-/// A number that a line can say.
-fn few(number: u64) -> Result<u64, Memory>
-    ensures same { IfOk result (λ n. n ≡ number) }
-    ensures short { IfOk result (λ n. n < 10 ^ 18) }
-    ensures only { OnErr result (10 ^ 18 ≤ number) }
-{
-    if number > MOST_ADDED {
-        return Err(Memory);
-    }
-    Ok(number)
-}
-
-/// How many of a log's givens were added to those that stand for the instance.
+/// How many of a log's givens were added to those that stand for the instance. No memory holds so many events that a line
+/// couldn't say it.
 fn added_number(log: &Log, clauses: &[Clause]) -> u64
     requires { clauses.now ≡ givens log.now.events }
-    ensures { result ≡ length (added_clauses log.now) }
+    ensures value { result ≡ length (added_clauses log.now) }
+    ensures short { result < 10 ^ 18 }
 {
+    let _events = log.events();
     clauses.len() as u64 - log.base()
 }
 

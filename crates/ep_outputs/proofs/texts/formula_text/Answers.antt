@@ -19,7 +19,7 @@ returns c =
     let least : (most : ℕ) → All (VariablesUpTo most) f.clauses → NotesUpTo most notes → f.vars ≤ most = λ most all up.
     subst (λ (n : ℕ). n ≤ most) (sym over)
     (c.fewest_variables-vars.ensures.least most (subst (All (VariablesUpTo most)) asked all) (plain-noted most kept (subst (NotesUpTo most) (sym same) up))) in
-    text-told c.args.log.now f notes c.in_ok-added.added c.write_cnf.result
+    text-told c.args.log.now f notes c.added_number-added.result c.write_cnf.result
     (given ∙ c.in_ok-clauses.ensures ∙ ap givens c.events.ensures.value)
-    c.clauses-names.ensures.names noted least c.notes-2.ensures c.requires.readable (c.in_ok-added.ensures.same ∙ c.added_number.ensures) c.in_ok-added.ensures.short
+    c.clauses-names.ensures.names noted least c.notes-2.ensures c.requires.readable c.added_number-added.ensures.value c.added_number-added.ensures.short
     c.write_cnf.ensures.text c.write_cnf.ensures.again c.write_cnf.ensures.spells
