@@ -8,6 +8,7 @@ ghost use Rattle.sat_search.specs.Analysis.{IsKnown, is_marked, MarksClause, IsT
 
 use crate::levels::level_in;
 use crate::marks::Marks;
+use crate::met::Met;
 use crate::minimal::{Seen, reason_of, removal};
 use crate::order::Order;
 use crate::places::Places;
@@ -17,12 +18,11 @@ use sat_state::{ShortLit, State};
 use std::alloc::Global;
 
 /// What explaining a conflict writes on, kept from one conflict to the next: the variables that were met, marked and in a list,
-/// and how many of them were not yet looked at, of all levels and of the last.
+/// and how many of them were not yet looked at of the last level.
 #[derive(Debug, Drop)]
 pub struct Analysis {
     marks: Marks,
-    met: Vec<u64>,
-    pending: u64,
+    met: Met,
     last: u64,
     seen: Seen,
     places: Places,
@@ -33,8 +33,7 @@ impl Analysis {
     pub fn new(alloc: Global) -> Analysis {
         Analysis {
             marks: Marks::new(alloc),
-            met: Vec::new(alloc),
-            pending: 0,
+            met: Met::new(alloc),
             last: 0,
             seen: Seen::new(alloc),
             places: Places::new(alloc),
@@ -55,7 +54,6 @@ fn begin(state: &State, analysis: &mut Analysis, vars: u64) -> Result<(), Memory
     analysis.marks.grow(vars)?;
     analysis.marks.clear();
     analysis.met.clear();
-    analysis.pending = 0;
     analysis.last = 0;
     analysis.places.begin(vars, state.trail())?;
     analysis.seen.begin(vars)
@@ -64,14 +62,13 @@ fn begin(state: &State, analysis: &mut Analysis, vars: u64) -> Result<(), Memory
 // Marks a variable, and counts it if it wasn't marked, also as one of the last level where it is so.
 fn meet(state: &State, analysis: &mut Analysis, level: u64, var: u64) -> Result<(), Memory>
     ensures marks { OnOk result (analysis.new.marks ≡ slice_set analysis.old.marks var true) }
-    ensures counts { OnOk result (CountsMarks (literals state.now.trail) analysis.old.marks analysis.new.marks analysis.old.pending analysis.new.pending) }
+    ensures counts { OnOk result (CountsMarks (literals state.now.trail) analysis.old.marks analysis.new.marks analysis.old.met analysis.new.met) }
 {
     let _trail = state.trail();
     if analysis.marks.is_marked(var) {
         return Ok(());
     }
     let is_last = level_in(state, var) == level;
-    analysis.pending = analysis.pending.checked_add(1).ok_or(Memory)?;
     analysis.last = analysis.last.saturating_add(u64::from(is_last));
     analysis.met.push(var)?;
     analysis.marks.mark(var);
@@ -83,7 +80,7 @@ fn mark(state: &State, analysis: &mut Analysis, lits: &[ShortLit]) -> Result<(),
     requires { All (λ l. l.var < length analysis.old.marks) lits.now }
     ensures room { OnOk result (length analysis.new.marks ≡ length analysis.old.marks) }
     ensures marks { OnOk result (MarksClause analysis.old.marks analysis.new.marks lits.now) }
-    ensures counts { OnOk result (CountsMarks (literals state.now.trail) analysis.old.marks analysis.new.marks analysis.old.pending analysis.new.pending) }
+    ensures counts { OnOk result (CountsMarks (literals state.now.trail) analysis.old.marks analysis.new.marks analysis.old.met analysis.new.met) }
 {
     let level = state.level();
     for lit in lits {
@@ -105,7 +102,7 @@ fn resolve(
     ensures ordered { OnOk result (IsOrdered (slice_index_or state.now.clauses number [])) }
     ensures room { OnOk result (length analysis.new.marks ≡ length analysis.old.marks) }
     ensures marks { OnOk result (MarksClause analysis.old.marks analysis.new.marks (slice_index_or state.now.clauses number [])) }
-    ensures counts { OnOk result (CountsMarks (literals state.now.trail) analysis.old.marks analysis.new.marks analysis.old.pending analysis.new.pending) }
+    ensures counts { OnOk result (CountsMarks (literals state.now.trail) analysis.old.marks analysis.new.marks analysis.old.met analysis.new.met) }
 {
     hints.push(number)?;
     mark(state, analysis, state.literals(number))
@@ -165,10 +162,10 @@ fn resolve_level(
     requires known { IsKnown vars state.now }
     requires room { vars < length analysis.old.marks }
     requires traced { IsTraced state.now.clauses (literals state.now.trail) analysis.old.marks [] hints.old.items (length (literals state.now.trail)) }
-    requires counted { count_marked (literals state.now.trail) analysis.old.marks (length (literals state.now.trail)) ≤ analysis.old.pending }
+    requires counted { count_marked (literals state.now.trail) analysis.old.marks (length (literals state.now.trail)) ≤ analysis.old.met }
     ensures room { IsOk result → vars < length analysis.new.marks }
     ensures traced { IfOk result (λ cut. IsTraced state.now.clauses (literals state.now.trail) analysis.new.marks [] hints.new.items (option_map_or (λ c. c.place + 1) cut 0)) }
-    ensures counted { IfOk result (λ cut. count_marked (literals state.now.trail) analysis.new.marks (option_map_or (λ c. c.place + 1) cut 0) ≤ analysis.new.pending) }
+    ensures counted { IfOk result (λ cut. count_marked (literals state.now.trail) analysis.new.marks (option_map_or (λ c. c.place + 1) cut 0) ≤ analysis.new.met) }
     ensures cut { IfOk result (λ cut. IfSome cut (λ c. IsCut state.now.clauses (literals state.now.trail) analysis.new.marks c.place c.decision)) }
 {
     let trail = state.trail();
@@ -188,7 +185,7 @@ fn resolve_level(
                     if let Some(cut) = cut_at(state, &analysis.marks, place, analysis.last) {
                         return Ok(Some(cut));
                     }
-                    analysis.pending = analysis.pending.saturating_sub(1);
+                    analysis.met.pass();
                     analysis.last = analysis.last.saturating_sub(1);
                     resolve(state, number, analysis, hints)?;
                 }
@@ -227,24 +224,24 @@ fn keep_below(
     requires room { vars < length analysis.old.marks }
     requires within { from ≤ length (literals state.now.trail) }
     requires traced { IsTraced state.now.clauses (literals state.now.trail) analysis.old.marks lits.old.items hints.old.items from }
-    requires counted { count_marked (literals state.now.trail) analysis.old.marks from ≤ analysis.old.pending }
+    requires counted { count_marked (literals state.now.trail) analysis.old.marks from ≤ analysis.old.met }
     ensures traced { OnOk result (IsTraced state.now.clauses (literals state.now.trail) analysis.new.marks lits.new.items hints.new.items 0) }
     ensures keeps { OnOk result (KeepsMore (take from (literals state.now.trail)) lits.old.items lits.new.items) }
 {
     let trail = state.trail();
     let mut place = from;
-    while place > 0 && analysis.pending > 0 {
-        place = analysis.places.next_below(analysis.met.as_slice(), place);
+    while place > 0 && analysis.met.left() > 0 {
+        place = analysis.places.next_below(analysis.met.all(), place);
         let lit = trail[place];
         if analysis.marks.is_marked(lit.var()) {
-            analysis.pending -= 1;
+            analysis.met.pass();
             match removal(state, &analysis.marks, &mut analysis.seen, lit) {
                 Some(number) => resolve(state, number, analysis, hints)?,
                 None => lits.push(lit.negated().lit())?,
             }
         }
     }
-    if analysis.pending == 0 {
+    if analysis.met.left() == 0 {
         return Ok(());
     }
     keep_marked(state, &analysis.marks, from, lits)
@@ -262,7 +259,7 @@ fn keep(
     requires known { IsKnown vars state.now }
     requires room { vars < length analysis.old.marks }
     requires traced { IsTraced state.now.clauses (literals state.now.trail) analysis.old.marks [] hints.old.items (option_map_or (λ c. c.place + 1) cut 0) }
-    requires counted { count_marked (literals state.now.trail) analysis.old.marks (option_map_or (λ c. c.place + 1) cut 0) ≤ analysis.old.pending }
+    requires counted { count_marked (literals state.now.trail) analysis.old.marks (option_map_or (λ c. c.place + 1) cut 0) ≤ analysis.old.met }
     requires cut { ForSome cut (λ c. IsCut state.now.clauses (literals state.now.trail) analysis.old.marks c.place c.decision) }
     ensures traced { IfOk result (λ lits. IsTraced state.now.clauses (literals state.now.trail) analysis.new.marks lits.items hints.new.items 0) }
     ensures last { IfOk result (λ lits. (lits.items ≡ []) ⊎ HasLast state.now.clauses lits.items) }
@@ -271,7 +268,7 @@ fn keep(
     match cut {
         None => Ok(lits),
         Some(at) => {
-            analysis.pending = analysis.pending.saturating_sub(1);
+            analysis.met.pass();
             lits.push(state.trail()[at.place].negated().lit())?;
             keep_below(state, vars, at.decision, analysis, &mut lits, hints)?;
             Ok(lits)
@@ -320,7 +317,7 @@ pub fn explain(
     begin(state, analysis, vars)?;
     resolve(state, number, analysis, &mut hints)?;
     let cut = resolve_level(state, vars, analysis, &mut hints)?;
-    order.name(analysis.met.as_slice());
+    order.name(analysis.met.all());
     let lits = keep(alloc, state, vars, cut, analysis, &mut hints)?;
     name_reasons(state, order, analysis, lits.as_slice());
     order.advance_step();

@@ -6,6 +6,7 @@ mod adding;
 mod learning;
 mod levels;
 mod marks;
+mod met;
 mod minimal;
 mod order;
 mod outcome;

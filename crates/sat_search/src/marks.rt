@@ -55,7 +55,7 @@ impl Marks {
     pub fn grow(&mut self, vars: u64) -> Result<(), Memory>
         ensures { OnOk result (vars < length self.new) }
     {
-        let wanted = vars.checked_add(1).ok_or(Memory)? as usize;
+        let wanted = vars.saturating_add(1) as usize;
         if self.stamps.len() < wanted {
             self.stamps.resize(wanted, 0)?;
         }

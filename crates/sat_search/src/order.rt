@@ -53,7 +53,7 @@ impl Order {
 
     /// Brings in the variables up to this number that weren't there, for a search that begins.
     pub fn grow(&mut self, vars: u64) -> Result<(), Memory> {
-        let wanted = vars.checked_add(1).ok_or(Memory)? as usize;
+        let wanted = vars.saturating_add(1) as usize;
         let known = self.scores.len();
         if known < wanted {
             self.scores.resize(wanted, 0)?;

@@ -34,7 +34,7 @@ impl Places {
 
     /// Begins with a conflict over the variables up to this number: reads the rest of the trail. No place was met.
     pub fn begin(&mut self, vars: u64, trail: &[ShortLit]) -> Result<(), Memory> {
-        let wanted = vars.checked_add(1).ok_or(Memory)? as usize;
+        let wanted = vars.saturating_add(1) as usize;
         if self.places.len() < wanted {
             self.places.resize(wanted, 0)?;
             self.met.resize(wanted / WORD + 1, 0)?;

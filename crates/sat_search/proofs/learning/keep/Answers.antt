@@ -42,7 +42,7 @@ pub keep_below-requires-clause-counted : goal.keep_below-requires-clause-counted
 keep_below-requires-clause-counted c =
     let lits = literals c.args.state.now.trail in
     let marks = c.args.analysis.now.marks in
-    let pending = c.args.analysis.now.pending in
+    let pending = c.args.analysis.now.met in
     let l = c.index-trail-at.result in
     let at = c.in-Some.at in
     let cut : IsCut c.args.state.now.clauses lits marks at.place at.decision = c.requires.cut at c.in-Some.is in
@@ -50,4 +50,4 @@ keep_below-requires-clause-counted c =
     let marked : is_marked marks l.var ≡ true = ap (λ (x : Literal). is_marked marks x.var) is ∙ cut.marked l in
     let taken : count_marked lits marks at.place + 1 ≤ pending = count_taken lits marks at.place pending l cut.there is marked
     (subst (λ (o : Option Cut). count_marked lits marks (option_map_or (λ (k : Cut). k.place + 1) o 0) ≤ pending) c.in-Some.is c.requires.counted) in
-    count_below lits marks at.decision at.place c.saturating_sub-analysis.result cut.order (omega (arith, cut.there)) (omega (arith, taken, c.saturating_sub-analysis.ensures))
+    count_below lits marks at.decision at.place c.pass.new.self cut.order (omega (arith, cut.there)) (omega (arith, taken, c.pass.ensures))

@@ -8,7 +8,7 @@ use Rattle.sat_search.proofs.Trails.{reason_read}
 use Rattle.sat_search.proofs.Tracing.{keeps_push, keeps_same, in_front}
 use Rattle.sat_search.proofs.Missed.{IsTracedBut, but_start, but_over, but_skip, but_keep, but_resolve, but_none, but_kept, keeps_as_marked}
 use Rattle.sat_search.proofs.learning.keep_below.Goals as goal
-use Rattle.sat_search.proofs.learning.keep_below.Goals.{then-loop-place-test+else-analysis-gt0, else-loop-place-test}
+use Rattle.sat_search.proofs.learning.keep_below.Goals.{then-loop-place-test+else-left-gt0, else-loop-place-test}
 
 pub loop-place-init : goal.loop-place-init
 loop-place-init c =
@@ -18,9 +18,9 @@ loop-place-init c =
     record {
       within = omega arith;
       room = c.requires.room;
-      traced = but_start c.args.state.now.clauses lits old.marks c.args.lits.now.items c.args.hints.now.items c.args.from old.pending
+      traced = but_start c.args.state.now.clauses lits old.marks c.args.lits.now.items c.args.hints.now.items c.args.from old.met
           (subst (λ (ls : List Literal). IsTraced c.args.state.now.clauses ls old.marks c.args.lits.now.items c.args.hints.now.items c.args.from) back c.requires.traced)
-          (subst (λ (ls : List Literal). count_marked ls old.marks c.args.from ≤ old.pending) back c.requires.counted);
+          (subst (λ (ls : List Literal). count_marked ls old.marks c.args.from ≤ old.met) back c.requires.counted);
       keeps = keeps_same (take c.args.from lits) c.args.lits.now.items;
     }
 
@@ -35,7 +35,7 @@ loop-place-preserved-in-Continue-1 c =
     let lits = c.trail-trail.result.now in
     let old = c.loop-place.analysis.marks in
     let new = c.resolve.new.analysis.marks in
-    let pending = c.loop-place.analysis.pending in
+    let pending = c.loop-place.analysis.met in
     let kept = c.loop-place.lits.items in
     let hints = c.loop-place.hints.items in
     let from = c.args.from in
@@ -48,13 +48,14 @@ loop-place-preserved-in-Continue-1 c =
     reason_read clauses c.args.state.now.trail lits p l.var l (Some c.in-Some.number)
     c.trail-trail.ensures.grounded c.trail-trail.ensures.value (omega (arith, below, inside)) c.index-trail-place.is refl c.in-Some.ensures in
     let marked : is_marked old l.var ≡ true = ap (is_marked old) (sym c.var.ensures.value) ∙ sym c.is_marked.ensures ∙ c.if-is_marked.true in
-    let counts : CountsMarks lits old new (pending - 1) c.resolve.new.analysis.pending =
-    subst (λ (ls : List Literal). CountsMarks ls old new (pending - 1) c.resolve.new.analysis.pending) (sym c.trail-trail.ensures.value) c.in_ok-resolve-in-Some.ensures.counts in
+    let counts : CountsMarks lits old new (pending - 1) c.resolve.new.analysis.met =
+    subst (λ (n : ℕ). CountsMarks lits old new n c.resolve.new.analysis.met) c.pass.ensures
+    (subst (λ (ls : List Literal). CountsMarks ls old new c.pass.new.self c.resolve.new.analysis.met) (sym c.trail-trail.ensures.value) c.in_ok-resolve-in-Some.ensures.counts) in
     record {
       within = omega (arith, below);
       room = omega (arith, c.loop-place.invariant.room, c.in_ok-resolve-in-Some.ensures.room);
       traced = rw c.in_ok-resolve-in-Some.ensures.hints
-          (but_resolve clauses lits old kept hints from pending inside new c.resolve.new.analysis.pending p c.in-Some.number l below c.index-trail-place.is marked reason.0 reason.1
+          (but_resolve clauses lits old kept hints from pending inside new c.resolve.new.analysis.met p c.in-Some.number l below c.index-trail-place.is marked reason.0 reason.1
           c.in_ok-resolve-in-Some.ensures.ordered c.in_ok-resolve-in-Some.ensures.marks counts
           (but_over clauses lits old kept hints from pending inside (p + 1) (c.loop-place.place - (p + 1)) (omega (arith, whole, c.loop-place.invariant.within))
           (subst (λ (n : ℕ). IsTracedBut clauses lits old kept hints from n pending) whole c.loop-place.invariant.traced)));
@@ -66,7 +67,7 @@ loop-place-preserved-in-Continue-branch-2 c =
     let clauses = c.args.state.now.clauses in
     let lits = c.trail-trail.result.now in
     let marks = c.loop-place.analysis.marks in
-    let pending = c.loop-place.analysis.pending in
+    let pending = c.loop-place.analysis.met in
     let kept = c.loop-place.lits.items in
     let hints = c.loop-place.hints.items in
     let from = c.args.from in
@@ -80,7 +81,7 @@ loop-place-preserved-in-Continue-branch-2 c =
     record {
       within = omega (arith, below);
       room = c.loop-place.invariant.room;
-      traced = rw (c.in_ok-push-in-None.ensures.items, c.lit.ensures, c.negated.ensures)
+      traced = rw (c.in_ok-push-in-None.ensures.items, c.lit.ensures, c.negated.ensures, c.pass.ensures)
           (but_keep clauses lits marks kept hints from pending inside p l below c.index-trail-place.is marked
           (but_over clauses lits marks kept hints from pending inside (p + 1) (c.loop-place.place - (p + 1)) (omega (arith, whole, c.loop-place.invariant.within))
           (subst (λ (n : ℕ). IsTracedBut clauses lits marks kept hints from n pending) whole c.loop-place.invariant.traced)));
@@ -92,7 +93,7 @@ loop-place-preserved c =
     let clauses = c.args.state.now.clauses in
     let lits = c.trail-trail.result.now in
     let marks = c.loop-place.analysis.marks in
-    let pending = c.loop-place.analysis.pending in
+    let pending = c.loop-place.analysis.met in
     let kept = c.loop-place.lits.items in
     let hints = c.loop-place.hints.items in
     let from = c.args.from in
@@ -113,14 +114,14 @@ loop-place-preserved c =
 
 -- nothing was passed over
 
-pub returns-then-analysis-eq0-clause-traced : goal.returns-then-analysis-eq0-clause-traced
-returns-then-analysis-eq0-clause-traced c =
+pub returns-then-left-eq0-clause-traced : goal.returns-then-left-eq0-clause-traced
+returns-then-left-eq0-clause-traced c =
     let clauses = c.args.state.now.clauses in
     let lits = c.trail-trail.result.now in
     let l = c.loop-place in
     let inside : c.args.from ≤ length lits = omega (arith, c.requires.within, ap length c.trail-trail.ensures.value) in
     subst (λ (ls : List Literal). IsTraced clauses ls l.analysis.marks l.lits.items l.hints.items 0) c.trail-trail.ensures.value
-    (but_none clauses lits l.analysis.marks l.lits.items l.hints.items c.args.from l.analysis.pending inside l.place l.invariant.within (omega (arith, c.if-analysis-eq0.true)) l.invariant.traced)
+    (but_none clauses lits l.analysis.marks l.lits.items l.hints.items c.args.from l.analysis.met inside l.place l.invariant.within (omega (arith, c.if-left-eq0.true)) l.invariant.traced)
 
 -- what was passed over is kept
 
@@ -131,15 +132,15 @@ returns-clause-traced c =
     let l = c.loop-place in
     let inside : c.args.from ≤ length lits = omega (arith, c.requires.within, ap length c.trail-trail.ensures.value) in
     let start : l.place ≡ 0 = elim c.loop-place-test.branch [
-      | then-loop-place-test+else-analysis-gt0 w ↦ absurd (omega (arith, w.if-analysis-gt0.false, c.if-analysis-eq0.false))
+      | then-loop-place-test+else-left-gt0 w ↦ absurd (omega (arith, w.if-left-gt0.false, c.if-left-eq0.false))
       | else-loop-place-test w ↦ omega (arith, w.loop-place-test.false)
     ] in
-    let but : IsTracedBut clauses lits l.analysis.marks l.lits.items l.hints.items c.args.from 0 l.analysis.pending
-    = subst (λ (n : ℕ). IsTracedBut clauses lits l.analysis.marks l.lits.items l.hints.items c.args.from n l.analysis.pending) start l.invariant.traced in
+    let but : IsTracedBut clauses lits l.analysis.marks l.lits.items l.hints.items c.args.from 0 l.analysis.met
+    = subst (λ (n : ℕ). IsTracedBut clauses lits l.analysis.marks l.lits.items l.hints.items c.args.from n l.analysis.met) start l.invariant.traced in
     on_ok_weaker c.keep_marked.result
     (λ (keeps : KeepsMarked (take c.args.from (literals c.args.state.now.trail)) l.analysis.marks l.lits.items c.keep_marked.new.lits.items).
     subst (λ (ls : List Literal). IsTraced clauses ls l.analysis.marks c.keep_marked.new.lits.items l.hints.items 0) c.trail-trail.ensures.value
-    (but_kept clauses lits l.analysis.marks l.lits.items l.hints.items c.args.from l.analysis.pending inside c.keep_marked.new.lits.items
+    (but_kept clauses lits l.analysis.marks l.lits.items l.hints.items c.args.from l.analysis.met inside c.keep_marked.new.lits.items
     (subst (λ (ls : List Literal). KeepsMarked (take c.args.from ls) l.analysis.marks l.lits.items c.keep_marked.new.lits.items) (sym c.trail-trail.ensures.value) keeps) but))
     c.keep_marked.ensures
 

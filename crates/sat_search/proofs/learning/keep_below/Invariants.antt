@@ -8,7 +8,7 @@ abbrev pub invariant-loop-place : goal.invariant-loop-place
 invariant-loop-place l = record {
   within : l.place ≤ l.from;
   room : l.vars < length l.analysis.marks;
-  traced : IsTracedBut l.state.clauses l.trail l.analysis.marks l.lits.items l.hints.items l.from l.place l.analysis.pending;
+  traced : IsTracedBut l.state.clauses l.trail l.analysis.marks l.lits.items l.hints.items l.from l.place l.analysis.met;
   keeps : KeepsMore (take l.from l.trail) l.fn.lits.items l.lits.items;
 }
 

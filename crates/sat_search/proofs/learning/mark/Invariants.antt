@@ -7,5 +7,5 @@ abbrev pub invariant-loop-lit : goal.invariant-loop-lit
 invariant-loop-lit l = record {
   room : length l.analysis.marks ≡ length l.fn.analysis.marks;
   marks : MarksClause l.fn.analysis.marks l.analysis.marks (take l.lit-index l.lits);
-  counts : CountsMarks (literals l.state.trail) l.fn.analysis.marks l.analysis.marks l.fn.analysis.pending l.analysis.pending;
+  counts : CountsMarks (literals l.state.trail) l.fn.analysis.marks l.analysis.marks l.fn.analysis.met l.analysis.met;
 }

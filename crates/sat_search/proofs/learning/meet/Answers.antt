@@ -1,4 +1,4 @@
-use Rattle.std.proofs.Common.{rules, ◌≡◌, ◌+◌, sym, arith, ◌∙◌}
+use Rattle.std.proofs.Common.{sym, arith, ◌∙◌}
 use Rattle.sat_search.proofs.Marking.{marked_already}
 use Rattle.sat_search.proofs.Counting.{counts_one}
 use Rattle.sat_search.proofs.learning.meet.Goals as goal
@@ -9,6 +9,5 @@ returns-then-is_marked-clause-marks c = marked_already c.args.analysis.now.marks
 pub returns-clause-counts : goal.returns-clause-counts
 returns-clause-counts c = λ upto within.
     let old = c.args.analysis.now in
-    let more : c.in_ok-analysis.field-0 ≡ old.pending + 1 = search rules in
     rw c.mark.ensures
-    (omega (arith, more, counts_one c.args.state.now.clauses c.args.state.now.trail old.marks old.marks c.args.var old.pending old.pending c.trail-trail.ensures.grounded (λ u inside. omega arith) upto within))
+    (omega (arith, c.in_ok-push.ensures, counts_one c.args.state.now.clauses c.args.state.now.trail old.marks old.marks c.args.var old.met old.met c.trail-trail.ensures.grounded (λ u inside. omega arith) upto within))

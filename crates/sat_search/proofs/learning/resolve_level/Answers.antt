@@ -47,17 +47,17 @@ loop-place-preserved-in-Continue-1 c =
     reason_read clauses c.args.state.now.trail lits p c.var-then-is_marked.result l (Some c.in-Some.number)
     c.trail-trail.ensures.grounded c.trail-trail.ensures.value within c.index-trail-place.is c.var-then-is_marked.ensures.value c.in-Some.ensures in
     let marked : is_marked old l.var ≡ true = ap (is_marked old) (sym c.var.ensures.value) ∙ sym c.is_marked.ensures ∙ c.if-is_marked.true in
-    let taken : count_marked lits old p + 1 ≤ c.loop-place.analysis.pending = count_taken lits old p c.loop-place.analysis.pending l within c.index-trail-place.is marked
-    (subst (λ (n : ℕ). count_marked lits old n ≤ c.loop-place.analysis.pending) next c.loop-place.invariant.counted) in
-    let counts : CountsMarks lits old new c.saturating_sub-analysis.result c.resolve.new.analysis.pending =
-    subst (λ (ls : List Literal). CountsMarks ls old new c.saturating_sub-analysis.result c.resolve.new.analysis.pending) (sym c.trail-trail.ensures.value) c.in_ok-resolve-in-Some.ensures.counts in
+    let taken : count_marked lits old p + 1 ≤ c.loop-place.analysis.met = count_taken lits old p c.loop-place.analysis.met l within c.index-trail-place.is marked
+    (subst (λ (n : ℕ). count_marked lits old n ≤ c.loop-place.analysis.met) next c.loop-place.invariant.counted) in
+    let counts : CountsMarks lits old new c.pass.new.self c.resolve.new.analysis.met =
+    subst (λ (ls : List Literal). CountsMarks ls old new c.pass.new.self c.resolve.new.analysis.met) (sym c.trail-trail.ensures.value) c.in_ok-resolve-in-Some.ensures.counts in
     record {
       within = omega (arith, within);
       room = omega (arith, c.loop-place.invariant.room, c.in_ok-resolve-in-Some.ensures.room);
       traced = rw c.in_ok-resolve-in-Some.ensures.hints (traced_resolve clauses lits old new [] c.loop-place.hints.items p c.in-Some.number l
           within c.index-trail-place.is reason.0 reason.1 c.in_ok-resolve-in-Some.ensures.ordered c.in_ok-resolve-in-Some.ensures.marks
           (subst (IsTraced clauses lits old [] c.loop-place.hints.items) next c.loop-place.invariant.traced));
-      counted = omega (arith, counts p (omega (arith, within)), taken, c.saturating_sub-analysis.ensures);
+      counted = omega (arith, counts p (omega (arith, within)), taken, c.pass.ensures);
     }
 
 pub loop-place-preserved : goal.loop-place-preserved
@@ -75,5 +75,5 @@ loop-place-preserved c =
       traced = traced_skip clauses lits marks [] c.loop-place.hints.items p l within c.index-trail-place.is
           (ap (is_marked marks) (sym c.var.ensures.value) ∙ sym c.is_marked.ensures ∙ c.if-is_marked.false)
           (subst (IsTraced clauses lits marks [] c.loop-place.hints.items) next c.loop-place.invariant.traced);
-      counted = count_below lits marks p c.loop-place.place c.loop-place.analysis.pending (omega arith) c.loop-place.invariant.within c.loop-place.invariant.counted;
+      counted = count_below lits marks p c.loop-place.place c.loop-place.analysis.met (omega arith) c.loop-place.invariant.within c.loop-place.invariant.counted;
     }

@@ -8,7 +8,7 @@ invariant-loop-place l = record {
   within : l.place ≤ length l.trail;
   room : l.vars < length l.analysis.marks;
   traced : IsTraced l.state.clauses l.trail l.analysis.marks [] l.hints.items l.place;
-  counted : count_marked l.trail l.analysis.marks l.place ≤ l.analysis.pending;
+  counted : count_marked l.trail l.analysis.marks l.place ≤ l.analysis.met;
 }
 
 abbrev pub decreases-loop-place : goal.decreases-loop-place
