@@ -3,7 +3,9 @@
 use crate::deciding::{sizes, solutions};
 use crate::meanings::is_met;
 use crate::rows::{con_of, cons_of, domains_of, numbers_of, set_of};
-use crate::tables::{CHOICES, COUNTS, OPERATIONS, ORDERS, PROBLEMS, SUMS, TRUTHS, WIDE_SUMS};
+use crate::tables::{
+    CHOICES, COUNTS, OPERATIONS, ORDERS, PROBLEMS, SIZES, SUMS, TRUTHS, WIDE_SUMS,
+};
 use ep_flat::{Con, Flat};
 use std::alloc::Global;
 use std::test::Fail;
@@ -213,6 +215,31 @@ fn sizes_of(
     let con = con_of(alloc, said, truth)?;
     let flat = flat_of(alloc, &domains, vec![in alloc; con]?)?;
     sizes(alloc, &flat)
+}
+
+/// Whether the formula of the constraint of a row is as large as it says.
+fn is_so_large(alloc: Global, row: &str) -> Result<bool, Fail> {
+    let (text, counts) = row.split_once(" # ").unwrap_or((row, ""));
+    let (said, sets) = text.split_once(" : ").unwrap_or((text, ""));
+    let (variables, clauses) = counts.split_once(" ").unwrap_or((counts, ""));
+    let found = sizes_of(alloc, said, None, sets)?;
+    Ok(found.0 == variables.parse::<u64>()? && found.1 == clauses.parse::<usize>()?)
+}
+
+/// The first row of a table with another size.
+fn first_of_other_size(alloc: Global, table: &str) -> Result<Option<&str>, Fail> {
+    for row in table.lines() {
+        if !is_so_large(alloc, row)? {
+            return Ok(Some(row));
+        }
+    }
+    Ok(None)
+}
+
+#[test]
+fn formulas_are_so_large(rt: HostRuntime) -> Result<(), Fail> {
+    assert_eq!(rt; first_of_other_size(rt.alloc(), SIZES)?, None);
+    Ok(())
 }
 
 #[test]
