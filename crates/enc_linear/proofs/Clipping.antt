@@ -13,9 +13,9 @@ use Rattle.std.proofs.lemmas.List.Sums.{sum_by-cons}
 use Rattle.ep_base.specs.declared.operators.CompareOp.{CompareOp}
 use Rattle.ep_base.specs.Numbers.{compare_holds, sum_of}
 use Rattle.ep_flat.specs.Cons.{is_as_said}
-use Rattle.enc_atoms.specs.Atoms.{AreOfDomains}
+use Rattle.cnf_core.specs.Formula.{Cnf}
 use Rattle.enc_linear.specs.Bounds.{HasBounds, clipped, is_lower, is_upper}
-use Rattle.enc_linear.specs.Terms.{HoldsSteps, IsTermOf, LiesWithin, total, worth_of}
+use Rattle.enc_linear.specs.Terms.{Arise, HoldsSteps, IsTermOf, LiesWithin, total, worth_of}
 use Rattle.enc_linear.specs.declared.bounds.Bounds.{Bounds}
 use Rattle.enc_linear.specs.declared.terms.Step.{Step}
 use Rattle.enc_linear.specs.declared.terms.Term.{Term}
@@ -178,33 +178,33 @@ said_beyond values None op low high number rest sum n clip less greater h = by (
 -- ---- bounds
 
 -- what a term is worth lies within its bounds
-pub worth_within : (L : List VariableLiterals) (term : Term) (values : List ℤ) → IsTermOf L term → AreOfDomains L values → LiesWithin term.bounds (worth_of values term)
+pub worth_within : (L : List VariableLiterals) (f : Cnf) (term : Term) (values : List ℤ) → IsTermOf L f term → Arise L f values → LiesWithin term.bounds (worth_of values term)
 unfolding worth_of
-worth_within L term values of_layout among =
-    let a = stands_of L term values of_layout among in
+worth_within L f term values of_layout among =
+    let a = stands_of L f term values of_layout among in
     let h = All-contains (λ (step : Step). LiesWithin term.bounds step.worth) term.steps.items a.step of_layout.bounds a.there in
     (omega (arith, ints, h.0, a.worth), omega (arith, ints, h.1, a.worth))
 
-all_within : (L : List VariableLiterals) (ts : List Term) (values : List ℤ) → All (IsTermOf L) ts → AreOfDomains L values
+all_within : (L : List VariableLiterals) (f : Cnf) (ts : List Term) (values : List ℤ) → All (IsTermOf L f) ts → Arise L f values
     → (sum_of (map (λ (t : Term). t.bounds.least) ts) ≤ℤ total values ts) × (total values ts ≤ℤ sum_of (map (λ (t : Term). t.bounds.greatest) ts))
 unfolding total sum_of
-all_within L [] values all among = (omega (arith, ints), omega (arith, ints))
-all_within L (t ∷ ts) values all among =
-    let one = worth_within L t values (All-head (IsTermOf L) t ts all) among in
-    let rest = all_within L ts values (All-tail (IsTermOf L) t ts all) among in
+all_within L f [] values all among = (omega (arith, ints), omega (arith, ints))
+all_within L f (t ∷ ts) values all among =
+    let one = worth_within L f t values (All-head (IsTermOf L f) t ts all) among in
+    let rest = all_within L f ts values (All-tail (IsTermOf L f) t ts all) among in
     (omega (arith, ints, one.0, rest.0), omega (arith, ints, one.1, rest.1))
 
 -- what terms come to lies within their bounds
-pub total_within : (L : List VariableLiterals) (terms : List Term) (bounds : Bounds) (values : List ℤ) → All (IsTermOf L) terms → HasBounds bounds terms → AreOfDomains L values → LiesWithin bounds (total values terms)
-total_within L terms bounds values of_layout has among =
-    let h = all_within L terms values of_layout among in
+pub total_within : (L : List VariableLiterals) (f : Cnf) (terms : List Term) (bounds : Bounds) (values : List ℤ) → All (IsTermOf L f) terms → HasBounds bounds terms → Arise L f values → LiesWithin bounds (total values terms)
+total_within L f terms bounds values of_layout has among =
+    let h = all_within L f terms values of_layout among in
     (omega (arith, ints, h.0, has.least), omega (arith, ints, h.1, has.greatest))
 
 -- the ends for a rest within bounds
-pub clip_over : (L : List VariableLiterals) (others : List Term) (rest : Bounds) (number low high : ℤ) (values : List ℤ) → All (IsTermOf L) others → HasBounds rest others → AreOfDomains L values
+pub clip_over : (L : List VariableLiterals) (f : Cnf) (others : List Term) (rest : Bounds) (number low high : ℤ) (values : List ℤ) → All (IsTermOf L f) others → HasBounds rest others → Arise L f values
     → low ≡ (number -ℤ rest.greatest) -ℤ pos 1 → high ≡ (number -ℤ rest.least) +ℤ pos 1 → IsClipOver low high number (total values others)
-clip_over L others rest number low high values of_layout has among is_low is_high =
-    let h = total_within L others rest values of_layout has among in
+clip_over L f others rest number low high values of_layout has among is_low is_high =
+    let h = total_within L f others rest values of_layout has among in
     record { too_little = omega (arith, ints, h.1, is_low); too_much = omega (arith, ints, h.0, is_high) }
 
 -- bounds with a term more, and without one

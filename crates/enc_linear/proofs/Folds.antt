@@ -1,5 +1,5 @@
 -- Terms of a sum that give way to others, step by step.
-use Rattle.std.proofs.Common.{◌≡◌, ◌↔◌, ℕ, zero, suc, ◌<◌, ◌≤◌, ℤ, IsTrue, List, [], ◌∷◌, ◌++◌, length, take, refl, sym, ap, subst, ◌∙◌, arith}
+use Rattle.std.proofs.Common.{◌≡◌, ◌↔◌, ℕ, ◌<◌, ℤ, IsTrue, List, [], ◌∷◌, ◌++◌, length, take, refl, sym, ap, subst, ◌∙◌, arith}
 use Rattle.std.specs.List.{All}
 use Rattle.std.specs.List.Sorted.{IsPermutation}
 use Rattle.std.specs.Prelude.{Err, MatchOption, None, Ok, OnOk, Option, Result, Some}
@@ -10,6 +10,7 @@ use Rattle.ep_base.specs.Numbers.{compare_holds}
 use Rattle.ep_flat.specs.Cons.{is_as_said}
 use Rattle.enc_atoms.proofs.Adding.{adds_like}
 use Rattle.enc_atoms.specs.Atoms.{Adds}
+use Rattle.enc_linear.proofs.Arising.{no_longer}
 use Rattle.enc_linear.proofs.Clipping.{total_permuted}
 use Rattle.enc_linear.specs.Bounds.{Compares}
 use Rattle.enc_linear.specs.Folding.{GiveWay}
@@ -18,15 +19,6 @@ use Rattle.enc_linear.specs.declared.comparison.Comparison.{Comparison}
 use Rattle.enc_linear.specs.declared.terms.Term.{Term}
 use Rattle.enc_var.specs.Decoding.{VariableLiterals}
 use Rattle.enc_var.specs.Layouts.{IsLayoutOf}
-
--- a layout from which one goes on is no longer
-short : {X : Type 0} (n : ℕ) (xs : List X) → length (take n xs) ≤ length xs
-short zero xs = omega arith
-short (suc n) [] = omega arith
-short (suc n) (x ∷ xs) = let h = short n xs in omega (arith, h)
-
-pub no_longer : (L later : List VariableLiterals) → take (length L) later ≡ L → length L ≤ length later
-no_longer L later front = subst (λ n. n ≤ length later) (ap length front) (short (length L) later)
 
 front_of_front : (xs ys zs : List VariableLiterals) → take (length xs) ys ≡ xs → take (length ys) zs ≡ ys → take (length xs) zs ≡ xs
 front_of_front xs ys zs first second = sym (take-take (length xs) (length ys) zs (no_longer xs ys first)) ∙ ap (take (length xs)) second ∙ first
@@ -44,17 +36,17 @@ compares_permuted c ts us values moved =
     (λ h. sym same ∙ h, λ h. same ∙ h)
 
 -- terms in another order
-pub gives_order : (c : Comparison) (L : List VariableLiterals) (f : Cnf) (ts us : List Term) → IsLayoutOf L f → IsTrue f.from_new → All (IsTermOf L) ts → IsPermutation ts us → GiveWay c L f ts L f us
+pub gives_order : (c : Comparison) (L : List VariableLiterals) (f : Cnf) (ts us : List Term) → IsLayoutOf L f → IsTrue f.from_new → All (IsTermOf L f) ts → IsPermutation ts us → GiveWay c L f ts L f us
 gives_order c L f ts us is_layout from_new of_layout moved = record {
   from_new = from_new;
   is_layout = is_layout;
   earlier = take_all (length L) L (omega arith);
-  of_layout = All-permutation (IsTermOf L) ts us moved of_layout;
+  of_layout = All-permutation (IsTermOf L f) ts us moved of_layout;
   leads = λ last h added. adds_like L f last h (Compares c us) (Compares c ts) is_layout added (λ values among. compares_permuted c ts us values moved);
 }
 
 -- the same terms
-pub gives_none : (c : Comparison) (L : List VariableLiterals) (f : Cnf) (ts : List Term) → IsLayoutOf L f → IsTrue f.from_new → All (IsTermOf L) ts → GiveWay c L f ts L f ts
+pub gives_none : (c : Comparison) (L : List VariableLiterals) (f : Cnf) (ts : List Term) → IsLayoutOf L f → IsTrue f.from_new → All (IsTermOf L f) ts → GiveWay c L f ts L f ts
 gives_none c L f ts is_layout from_new of_layout = record {
   from_new = from_new;
   is_layout = is_layout;
@@ -70,7 +62,7 @@ gives_moved c L f ts us L1 f1 ts1 us1 is_layout before after gives = record {
   from_new = gives.from_new;
   is_layout = gives.is_layout;
   earlier = gives.earlier;
-  of_layout = All-permutation (IsTermOf L1) ts1 us1 after gives.of_layout;
+  of_layout = All-permutation (IsTermOf L1 f1) ts1 us1 after gives.of_layout;
   leads = λ last h added.
       adds_like L f last h (Compares c ts) (Compares c us) is_layout
       (gives.leads last h (adds_like L1 f1 last h (Compares c us1) (Compares c ts1) gives.is_layout added (λ values among. compares_permuted c ts1 us1 values after)))

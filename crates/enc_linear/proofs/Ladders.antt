@@ -8,19 +8,19 @@ use Rattle.std.proofs.lemmas.Bool.Decides.{Decides-int_eq}
 use Rattle.std.proofs.lemmas.Int.{ints}
 use Rattle.std.proofs.lemmas.List.Elements.{All-contains}
 use Rattle.cnf_core.proofs.Members.{All-from_contains}
-use Rattle.enc_atoms.specs.Atoms.{AreOfDomains, atom_holds, test_holds}
+use Rattle.enc_atoms.specs.Atoms.{atom_holds}
 use Rattle.enc_atoms.specs.declared.atoms.Atom.{Atom}
-use Rattle.enc_atoms.specs.declared.atoms.Test.{Test}
-use Rattle.enc_atoms.proofs.Decoded.{number_among}
+use Rattle.cnf_core.specs.Formula.{Cnf}
+use Rattle.enc_linear.specs.declared.sources.Source.{Source}
 use Rattle.enc_linear.specs.declared.terms.Step.{Step}
 use Rattle.enc_linear.specs.declared.terms.Term.{Term}
-use Rattle.enc_linear.proofs.Saying.{negated}
-use Rattle.enc_linear.specs.Terms.{AreInOrder, HasOrderedSteps, IsTermOf, SaysOfTerm, worth_at, worth_of}
+use Rattle.enc_linear.proofs.Reading.{said_at_most}
+use Rattle.enc_linear.specs.Sources.{SaysAbove, SaysAtMost, source_number}
+use Rattle.enc_linear.specs.Terms.{AreInOrder, Arise, HasOrderedSteps, IsTermOf, SaysOfSteps, SaysOfTerm, worth_at, worth_of}
 use Rattle.enc_var.proofs.Counts.{is_at_most, is_below}
 use Rattle.enc_var.specs.Decoding.{VariableLiterals}
-use Rattle.ep_flat.specs.Cons.{number_at}
 
-by_places : {P : Type 0} (i j : ℕ) → (i < j → P) → (i ≡ j → P) → (j < i → P) → P
+pub by_places : {P : Type 0} (i j : ℕ) → (i < j → P) → (i ≡ j → P) → (j < i → P) → P
 by_places {P} i j less same more = elim (split i j) as (λ _. P) [ inl lt ↦ less lt | inr r ↦ elim r as (λ _. P) [ inl e ↦ same e | inr gt ↦ more gt ] ]
   where
     step : (i j : ℕ) → (i < j) ⊎ ((i ≡ j) ⊎ (j < i)) → (suc i < suc j) ⊎ ((suc i ≡ suc j) ⊎ (suc j < suc i))
@@ -76,52 +76,48 @@ falls xs a b pairs here there =
     (λ h. (λ low. h.1, λ low. h.0))
 
 -- what a checked difference gives
-pub gives : (r : Option ℤ) (P : Type 0) (v b : ℤ) → SomeIff r P v → r ≡ Some b → b ≡ v
+pub gives : {A : Type 0} (r : Option A) (P : Type 0) (v b : A) → SomeIff r P v → r ≡ Some b → b ≡ v
 gives r P v b h e = (subst (λ o. SomeIff o P v) e h).1
 
-pub tests_at_most : (v x : ℤ) → IsTrue (test_holds Test.AtMost v x) ↔ (x ≤ℤ v)
-unfolding test_holds
-tests_at_most v x = (λ h. omega (arith, ints, h), λ h. is_at_most x v h)
-
-pub tests_above : (v x : ℤ) → IsTrue (test_holds Test.Above v x) ↔ (v <ℤ x)
-unfolding test_holds
-tests_above v x = (λ h. omega (arith, ints, h), λ h. is_below v x h)
-
-pub tests_is_not : (v x : ℤ) → IsTrue (test_holds Test.IsNot v x) ↔ (x ≢ v)
-unfolding test_holds
-tests_is_not v x = negated (int_eq x v) (x ≡ v) (Decides-int_eq x v)
-
 -- "less than at this step", where worths rise
-pub less_rising : (term : Term) (step : Step) (atom : Atom) (v : ℕ) (below : ℤ) → term.rising ≡ true → HasOrderedSteps term → Contains term.steps.items step
-    → atom ≡ record { var = v; test = Test.AtMost; value = below } → v ≡ term.var → below ≡ step.value -ℤ pos 1 → SaysOfTerm term atom (λ worth. worth <ℤ step.worth)
-less_rising term step atom v below rising ordered there made of_var is =
+pub less_rising : (term : Term) (step : Step) (atom : Atom) (below : ℤ) → term.rising ≡ true → HasOrderedSteps term → Contains term.steps.items step
+    → SaysAtMost term.source below atom → below ≡ step.value -ℤ pos 1 → SaysOfTerm term atom (λ worth. worth <ℤ step.worth)
+less_rising term step atom below rising ordered there says is =
     let pairs : AllPairs (AreInOrder true) term.steps.items = subst (λ (b : Bool). AllPairs (AreInOrder b) term.steps.items) rising ordered in
-    subst (λ (a : Atom). SaysOfTerm term a (λ worth. worth <ℤ step.worth)) (sym made)
-    (record {
-      var = of_var;
-      tells = All-from_contains (λ (other : Step). IsTrue (test_holds Test.AtMost below other.value) ↔ (other.worth <ℤ step.worth)) term.steps.items
-          (λ other here. let r = rises term.steps.items other step pairs here there in
-          let t = tests_at_most below other.value in (
-            λ h. let low : other.value ≤ℤ below = t.0 h in r.0 (omega (arith, ints, low, is)),
-            λ w. let low : other.value <ℤ step.value = r.1 w in t.1 (omega (arith, ints, low, is)),
+    record {
+      names = says.names;
+      tells = λ values n low whole. All-from_contains (λ (other : Step). source_number values term.source ≡ other.value → (IsTrue (atom_holds values atom) ↔ (other.worth <ℤ step.worth))) term.steps.items
+          (λ other here at. let r = rises term.steps.items other step pairs here there in
+          let t = said_at_most term.source below atom values n says low whole in (
+            λ h. let small : source_number values term.source ≤ℤ below = t.0 h in r.0 (omega (arith, ints, small, at, is)),
+            λ w. let small : other.value <ℤ step.value = r.1 w in t.1 (omega (arith, ints, small, at, is)),
           ));
-    })
+    }
 
 -- "less than at this step", where worths fall
-pub less_falling : (term : Term) (step : Step) (atom : Atom) (v : ℕ) (at : ℤ) → term.rising ≡ false → HasOrderedSteps term → Contains term.steps.items step
-    → atom ≡ record { var = v; test = Test.Above; value = at } → v ≡ term.var → at ≡ step.value → SaysOfTerm term atom (λ worth. worth <ℤ step.worth)
-less_falling term step atom v at falling ordered there made of_var is =
+pub less_falling : (term : Term) (step : Step) (atom : Atom) (at : ℤ) → term.rising ≡ false → HasOrderedSteps term → Contains term.steps.items step
+    → SaysAbove term.source at atom → at ≡ step.value → SaysOfTerm term atom (λ worth. worth <ℤ step.worth)
+less_falling term step atom at falling ordered there says is =
     let pairs : AllPairs (AreInOrder false) term.steps.items = subst (λ (b : Bool). AllPairs (AreInOrder b) term.steps.items) falling ordered in
-    subst (λ (a : Atom). SaysOfTerm term a (λ worth. worth <ℤ step.worth)) (sym made)
-    (record {
-      var = of_var;
-      tells = All-from_contains (λ (other : Step). IsTrue (test_holds Test.Above at other.value) ↔ (other.worth <ℤ step.worth)) term.steps.items
-          (λ other here. let r = falls term.steps.items other step pairs here there in
-          let t = tests_above at other.value in (
-            λ h. let above : at <ℤ other.value = t.0 h in r.0 (omega (arith, ints, above, is)),
-            λ w. let above : step.value <ℤ other.value = r.1 w in t.1 (omega (arith, ints, above, is)),
+    record {
+      names = says.names;
+      tells = λ values n low whole. All-from_contains (λ (other : Step). source_number values term.source ≡ other.value → (IsTrue (atom_holds values atom) ↔ (other.worth <ℤ step.worth))) term.steps.items
+          (λ other here number. let r = falls term.steps.items other step pairs here there in
+          let t = says.tells values n low whole in (
+            λ h. let above : at <ℤ source_number values term.source = t.0 h in r.0 (omega (arith, ints, above, number, is)),
+            λ w. let above : step.value <ℤ other.value = r.1 w in t.1 (omega (arith, ints, above, number, is)),
           ));
-    })
+    }
+
+pub less_rising_ok : {E : Type 0} (r : Result Atom E) (term : Term) (step : Step) (below : ℤ) → term.rising ≡ true → HasOrderedSteps term → Contains term.steps.items step
+    → IfOk r (λ atom. SaysAtMost term.source below atom) → below ≡ step.value -ℤ pos 1 → IfOk r (λ atom. SaysOfTerm term atom (λ worth. worth <ℤ step.worth))
+less_rising_ok (Ok atom) term step below rising ordered there says is = less_rising term step atom below rising ordered there says is
+less_rising_ok (Err e) term step below rising ordered there says is = tt
+
+pub less_falling_ok : {E : Type 0} (r : Result Atom E) (term : Term) (step : Step) (at : ℤ) → term.rising ≡ false → HasOrderedSteps term → Contains term.steps.items step
+    → IfOk r (λ atom. SaysAbove term.source at atom) → at ≡ step.value → IfOk r (λ atom. SaysOfTerm term atom (λ worth. worth <ℤ step.worth))
+less_falling_ok (Ok atom) term step at falling ordered there says is = less_falling term step atom at falling ordered there says is
+less_falling_ok (Err e) term step at falling ordered there says is = tt
 
 read_any : (ys : List Step) (k : ℕ) (d e : Step) → k < length ys → slice_index_or ys k d ≡ slice_index_or ys k e
 read_any [] k d e low = absurd (omega (arith, low))
@@ -136,56 +132,60 @@ pub above_same : (xs : List Step) (m most : ℤ) (i n : ℕ) → AllWithin (λ (
 above_same xs m most i n h e = subst (λ (b : ℤ). AllWithin (λ (step : Step). b <ℤ step.worth) xs i n) e h
 
 -- "at most so much", where worths rise
-pub up_rising : (xs : List Step) (count n : ℕ) (most v : ℤ) (w : ℕ) (first : Step) (atom : Atom) → AllPairs (AreInOrder true) xs → count ≤ length xs → n + 1 ≡ count
-    → AllWithin (λ step. step.worth ≤ℤ most) xs 0 count → AllWithin (λ step. most <ℤ step.worth) xs count (length xs) → atom ≡ record { var = w; test = Test.AtMost; value = v } → v ≡ (slice_index_or xs n first).value
-    → (atom.var ≡ w) × All (λ step. IsTrue (test_holds atom.test atom.value step.value) ↔ (step.worth ≤ℤ most)) xs
-up_rising xs count n most v w first atom pairs within next before behind made is =
-    subst (λ (a : Atom). (a.var ≡ w) × All (λ step. IsTrue (test_holds a.test a.value step.value) ↔ (step.worth ≤ℤ most)) xs) (sym made) (refl, each)
+pub up_rising : (xs : List Step) (count n : ℕ) (most v : ℤ) (from : Source) (first : Step) (atom : Atom) → AllPairs (AreInOrder true) xs → count ≤ length xs → n + 1 ≡ count
+    → AllWithin (λ step. step.worth ≤ℤ most) xs 0 count → AllWithin (λ step. most <ℤ step.worth) xs count (length xs) → SaysAtMost from v atom → v ≡ (slice_index_or xs n first).value
+    → SaysOfSteps from xs atom (λ worth. worth ≤ℤ most)
+up_rising xs count n most v from first atom pairs within next before behind says is = record {
+  names = says.names;
+  tells = λ values m low whole k d there number. each values k d there (said_at_most from v atom values m says low whole) number;
+}
   where
-    each : (k : ℕ) (d : Step) → k < length xs → IsTrue (test_holds Test.AtMost v (slice_index_or xs k d).value) ↔ ((slice_index_or xs k d).worth ≤ℤ most)
-    each k d low =
+    each : (values : List ℤ) (k : ℕ) (d : Step) → k < length xs → IsTrue (atom_holds values atom) ↔ (source_number values from ≤ℤ v) → source_number values from ≡ (slice_index_or xs k d).value
+        → IsTrue (atom_holds values atom) ↔ ((slice_index_or xs k d).worth ≤ℤ most)
+    each values k d low t number =
         let here : Step = slice_index_or xs k d in
-        let t = tests_at_most v here.value in
         let value : v ≡ (slice_index_or xs n d).value = is ∙ ap (λ (x : Step). x.value) (read_any xs n first d (omega arith)) in
         by_places k n
         (λ lt.
         let order = (pairs k n d lt (omega arith)).0 in
         let worth = before k d (omega arith) (omega arith) in
-        (λ h. worth, λ h. t.1 (omega (arith, ints, order, value))))
+        (λ h. worth, λ h. t.1 (omega (arith, ints, order, value, number))))
         (λ e.
         let worth = before k d (omega arith) (omega arith) in
         let there : here.value ≡ (slice_index_or xs n d).value = ap (λ j. (slice_index_or xs j d).value) e in
-        (λ h. worth, λ h. t.1 (omega (arith, ints, there, value))))
+        (λ h. worth, λ h. t.1 (omega (arith, ints, there, value, number))))
         (λ gt.
         let order = (pairs n k d gt low).0 in
         let worth = behind k d (omega arith) low in
-        (λ h. let below : here.value ≤ℤ v = t.0 h in absurd (omega (arith, ints, below, order, value)), λ h. absurd (omega (arith, ints, h, worth))))
+        (λ h. let below : source_number values from ≤ℤ v = t.0 h in absurd (omega (arith, ints, below, order, value, number)), λ h. absurd (omega (arith, ints, h, worth))))
 
 -- "at most so much", where worths fall
-pub up_falling : (xs : List Step) (count : ℕ) (most v : ℤ) (w : ℕ) (first : Step) (atom : Atom) → AllPairs (AreInOrder false) xs → count < length xs
-    → AllWithin (λ step. most <ℤ step.worth) xs 0 count → AllWithin (λ step. step.worth ≤ℤ most) xs count (length xs) → atom ≡ record { var = w; test = Test.Above; value = v } → v ≡ (slice_index_or xs count first).value -ℤ pos 1
-    → (atom.var ≡ w) × All (λ step. IsTrue (test_holds atom.test atom.value step.value) ↔ (step.worth ≤ℤ most)) xs
-up_falling xs count most v w first atom pairs within before behind made is =
-    subst (λ (a : Atom). (a.var ≡ w) × All (λ step. IsTrue (test_holds a.test a.value step.value) ↔ (step.worth ≤ℤ most)) xs) (sym made) (refl, each)
+pub up_falling : (xs : List Step) (count : ℕ) (most v : ℤ) (from : Source) (first : Step) (atom : Atom) → AllPairs (AreInOrder false) xs → count < length xs
+    → AllWithin (λ step. most <ℤ step.worth) xs 0 count → AllWithin (λ step. step.worth ≤ℤ most) xs count (length xs) → SaysAbove from v atom → v ≡ (slice_index_or xs count first).value -ℤ pos 1
+    → SaysOfSteps from xs atom (λ worth. worth ≤ℤ most)
+up_falling xs count most v from first atom pairs within before behind says is = record {
+  names = says.names;
+  tells = λ values m low whole k d there number. each values k d there (says.tells values m low whole) number;
+}
   where
-    each : (k : ℕ) (d : Step) → k < length xs → IsTrue (test_holds Test.Above v (slice_index_or xs k d).value) ↔ ((slice_index_or xs k d).worth ≤ℤ most)
-    each k d low =
+    each : (values : List ℤ) (k : ℕ) (d : Step) → k < length xs → IsTrue (atom_holds values atom) ↔ (v <ℤ source_number values from) → source_number values from ≡ (slice_index_or xs k d).value
+        → IsTrue (atom_holds values atom) ↔ ((slice_index_or xs k d).worth ≤ℤ most)
+    each values k d low t number =
         let here : Step = slice_index_or xs k d in
-        let t = tests_above v here.value in
         let same : (slice_index_or xs count first).value ≡ (slice_index_or xs count d).value = ap (λ (x : Step). x.value) (read_any xs count first d within) in
         by_places k count
         (λ lt.
         let order = (pairs k count d lt within).0 in
         let worth = before k d (omega arith) lt in
-        (λ h. let above : v <ℤ here.value = t.0 h in absurd (omega (arith, ints, above, order, same, is)), λ h. absurd (omega (arith, ints, h, worth))))
+        (λ h. let above : v <ℤ source_number values from = t.0 h in absurd (omega (arith, ints, above, order, same, is, number)), λ h. absurd (omega (arith, ints, h, worth))))
         (λ e.
         let worth = behind k d (omega arith) low in
         let there : here.value ≡ (slice_index_or xs count d).value = ap (λ j. (slice_index_or xs j d).value) e in
-        (λ h. worth, λ h. t.1 (omega (arith, ints, there, same, is))))
+        (λ h. worth, λ h. t.1 (omega (arith, ints, there, same, is, number))))
         (λ gt.
         let order = (pairs count k d gt low).0 in
         let worth = behind k d (omega arith) low in
-        (λ h. worth, λ h. t.1 (omega (arith, ints, order, same, is))))
+        (λ h. worth, λ h. t.1 (omega (arith, ints, order, same, is, number))))
 
 -- the first steps pass a test of worths that rise
 pub parted_rising : (xs : List Step) (most : ℤ) → AllPairs (AreInOrder true) xs → IsPartitionedBy (λ (step : Step). int_le step.worth most) xs
@@ -252,37 +252,31 @@ stands (s ∷ steps) x (k, low, at) = by (λ rest. stands steps x rest) (int_eq 
           worth = ap (λ b. cond b s.worth (worth_at steps x)) e ∙ rest.worth;
         }
 
--- the step of a term of a layout at the variable's number
-pub stands_of : (L : List VariableLiterals) (term : Term) (values : List ℤ) → IsTermOf L term → AreOfDomains L values → Stands term.steps.items (number_at values term.var)
-stands_of L term values of_layout among = stands term.steps.items (number_at values term.var) (subst (λ xs. Contains xs (number_at values term.var)) (sym of_layout.values) (number_among L values term.var among of_layout.var))
+-- the step of a term of a layout at the number of its source
+pub stands_of : (L : List VariableLiterals) (f : Cnf) (term : Term) (values : List ℤ) → IsTermOf L f term → Arise L f values → Stands term.steps.items (source_number values term.source)
+stands_of L f term values of_layout arise = stands term.steps.items (source_number values term.source) (of_layout.values values arise)
 
 -- an atom that says something of a term's worth holds exactly where that is so
-pub so_said : (L : List VariableLiterals) (term : Term) (atom : Atom) (holds : ℤ → Type 0) (values : List ℤ) → IsTermOf L term → SaysOfTerm term atom holds → AreOfDomains L values → IsTrue (atom_holds values atom) ↔ holds (worth_of values term)
-unfolding atom_holds worth_of
-so_said L term atom holds values of_layout says among =
-    let s = stands_of L term values of_layout among in
-    let t = All-contains (λ (step : Step). IsTrue (test_holds atom.test atom.value step.value) ↔ holds step.worth) term.steps.items s.step says.tells s.there in
-    let x : s.step.value ≡ number_at values atom.var = s.value ∙ ap (number_at values) (sym says.var) in (
-      λ h. subst holds (sym s.worth) (t.0 (subst (λ n. IsTrue (test_holds atom.test atom.value n)) (sym x) h)),
-      λ h. subst (λ n. IsTrue (test_holds atom.test atom.value n)) x (t.1 (subst holds s.worth h)),
-    )
+pub so_said : (L : List VariableLiterals) (f : Cnf) (term : Term) (atom : Atom) (holds : ℤ → Type 0) (values : List ℤ) → IsTermOf L f term → SaysOfTerm term atom holds → Arise L f values → IsTrue (atom_holds values atom) ↔ holds (worth_of values term)
+unfolding worth_of
+so_said L f term atom holds values of_layout says arise =
+    let s = stands_of L f term values of_layout arise in
+    let t = All-contains (λ (step : Step). source_number values term.source ≡ step.value → (IsTrue (atom_holds values atom) ↔ holds step.worth)) term.steps.items s.step
+    (says.tells values (length L) of_layout.names (of_layout.whole values arise)) s.there (sym s.value) in
+    (λ h. subst holds (sym s.worth) (t.0 h), λ h. t.1 (subst holds s.worth h))
 
 -- what the two searches find, as what an atom says of a term
-pub found_says : (term : Term) (xs : List Step) (v : ℕ) (most m : ℤ) (r : Option Atom) → xs ≡ term.steps.items → v ≡ term.var
-    → MatchOption r (All (λ (step : Step). m <ℤ step.worth) xs) (λ atom. (atom.var ≡ v) × All (λ (step : Step). IsTrue (test_holds atom.test atom.value step.value) ↔ (step.worth ≤ℤ m)) xs)
-    → m ≡ most → MatchOption r (All (λ (step : Step). most <ℤ step.worth) term.steps.items) (λ atom. SaysOfTerm term atom (λ worth. worth ≤ℤ most))
-found_says term xs v most m None e w h same = subst (λ (n : ℤ). All (λ (step : Step). n <ℤ step.worth) term.steps.items) same (subst (All (λ (step : Step). m <ℤ step.worth)) e h)
-found_says term xs v most m (Some atom) e w h same = record {
-  var = h.0 ∙ w;
-  tells = subst (λ (n : ℤ). All (λ (step : Step). IsTrue (test_holds atom.test atom.value step.value) ↔ (step.worth ≤ℤ n)) term.steps.items) same
-      (subst (All (λ (step : Step). IsTrue (test_holds atom.test atom.value step.value) ↔ (step.worth ≤ℤ m))) e h.1);
-}
+found_says : (from : Source) (xs ys : List Step) (most m : ℤ) (r : Option Atom) → xs ≡ ys → m ≡ most
+    → MatchOption r (All (λ (step : Step). m <ℤ step.worth) xs) (λ atom. SaysOfSteps from xs atom (λ worth. worth ≤ℤ m)) → MatchOption r (All (λ (step : Step). most <ℤ step.worth) ys) (λ atom. SaysOfSteps from ys atom (λ worth. worth ≤ℤ most))
+found_says from xs ys most m r e same h =
+    subst (λ (zs : List Step). MatchOption r (All (λ (step : Step). most <ℤ step.worth) zs) (λ atom. SaysOfSteps from zs atom (λ worth. worth ≤ℤ most))) e
+    (subst (λ (n : ℤ). MatchOption r (All (λ (step : Step). n <ℤ step.worth) xs) (λ atom. SaysOfSteps from xs atom (λ worth. worth ≤ℤ n))) same h)
 
-pub found_says_ok : {E : Type 0} (term : Term) (xs : List Step) (v : ℕ) (most m : ℤ) (r : Result (Option Atom) E) → xs ≡ term.steps.items → v ≡ term.var
-    → IfOk r (λ found. MatchOption found (All (λ (step : Step). m <ℤ step.worth) xs) (λ atom. (atom.var ≡ v) × All (λ (step : Step). IsTrue (test_holds atom.test atom.value step.value) ↔ (step.worth ≤ℤ m)) xs))
-    → m ≡ most → IfOk r (λ found. MatchOption found (All (λ (step : Step). most <ℤ step.worth) term.steps.items) (λ atom. SaysOfTerm term atom (λ worth. worth ≤ℤ most)))
-found_says_ok term xs v most m (Ok found) e w h same = found_says term xs v most m found e w h same
-found_says_ok term xs v most m (Err e') e w h same = tt
+pub found_says_ok : {E : Type 0} (from : Source) (xs ys : List Step) (most m : ℤ) (r : Result (Option Atom) E) → xs ≡ ys → m ≡ most
+    → IfOk r (λ found. MatchOption found (All (λ (step : Step). m <ℤ step.worth) xs) (λ atom. SaysOfSteps from xs atom (λ worth. worth ≤ℤ m)))
+    → IfOk r (λ found. MatchOption found (All (λ (step : Step). most <ℤ step.worth) ys) (λ atom. SaysOfSteps from ys atom (λ worth. worth ≤ℤ most)))
+found_says_ok from xs ys most m (Ok found) e same h = found_says from xs ys most m found e same h
+found_says_ok from xs ys most m (Err e') e same h = tt
 
 -- what a search found, with its number in other words
 pub never : (term : Term) (most m : ℤ) (r : Option Atom) → r ≡ None → MatchOption r (All (λ (step : Step). m <ℤ step.worth) term.steps.items) (λ atom. SaysOfTerm term atom (λ worth. worth ≤ℤ m)) → m ≡ most

@@ -9,3 +9,7 @@ pub mod Totals
 pub mod Clipping
 pub mod Summing
 pub mod Folds
+pub mod Arising
+pub mod Heights
+pub mod NewTerms
+pub mod Reading

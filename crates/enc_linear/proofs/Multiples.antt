@@ -9,10 +9,14 @@ use Rattle.std.proofs.lemmas.List.{length-map, map-append, take_all, take_more}
 use Rattle.std.proofs.lemmas.List.Elements.{All-contains, All-map}
 use Rattle.enc_atoms.proofs.Decoded.{number_among}
 use Rattle.enc_atoms.specs.Atoms.{AreOfDomains}
+use Rattle.cnf_core.specs.Formula.{Cnf}
+use Rattle.enc_linear.specs.declared.sources.Source.{Source}
+use Rattle.enc_linear.specs.declared.sources.Source.TheVariants as source
 use Rattle.enc_linear.specs.declared.terms.Step.{Step}
 use Rattle.enc_linear.specs.declared.terms.Term.{Term}
 use Rattle.enc_linear.specs.Bounds.{IsRaised, raised, raised_step}
-use Rattle.enc_linear.specs.Terms.{AreInOrder, HoldsSteps, IsMirror, IsTermOf, mirrored_step, step_of, worth_at, worth_of}
+use Rattle.enc_linear.specs.Sources.{IsSourceBelow, IsWhole, source_number}
+use Rattle.enc_linear.specs.Terms.{AreInOrder, Arise, HoldsSteps, IsMirror, IsTermOf, mirrored_step, step_of, worth_at, worth_of}
 use Rattle.enc_linear.proofs.Ladders.{stands}
 use Rattle.enc_var.specs.Decoding.{VariableLiterals}
 use Rattle.enc_var.specs.Layouts.{literals_at}
@@ -59,11 +63,14 @@ unfolding step_of
 steps_order a x y true is other low = (low, product_rises a x y (omega (arith, ints, is)) low)
 steps_order a x y false is other low = (low, product_falls a x y (omega (arith, ints, is, other)) low)
 
-pub multiple_of : (L : List VariableLiterals) (a : ℤ) (xs : List ℤ) (term : Term) → term.var < length L → xs ≡ (literals_at L term.var).domain → IsAscending xs → a ≢ pos 0 → term.rising ≡ int_lt (pos 0) a
-    → term.steps.items ≡ map (step_of a) xs → HoldsSteps term.bounds term.steps.items → IsTermOf L term
-multiple_of L a xs term low is up other rising steps bounds = record {
-  var = low;
-  values = ap (map (λ (step : Step). step.value)) steps ∙ values_of a xs ∙ is;
+pub multiple_of : (L : List VariableLiterals) (a : ℤ) (xs : List ℤ) (x : ℕ) (term : Term) → term.source ≡ source.Variable x → x < length L → xs ≡ (literals_at L x).domain → IsAscending xs → a ≢ pos 0 → term.rising ≡ int_lt (pos 0) a
+    → term.steps.items ≡ map (step_of a) xs → HoldsSteps term.bounds term.steps.items → (f : Cnf) → IsTermOf L f term
+unfolding source_number
+multiple_of L a xs x term at low is up other rising steps bounds f = record {
+  names = subst (IsSourceBelow (length L)) (sym at) low;
+  whole = λ values arise. subst (IsWhole values) (sym at) tt;
+  values = λ values arise. subst (λ (from : Source). Contains (map (λ (step : Step). step.value) term.steps.items) (source_number values from)) (sym at)
+      (subst (λ ys. Contains ys (number_at values x)) (sym is ∙ sym (ap (map (λ (step : Step). step.value)) steps ∙ values_of a xs)) (number_among L values x arise.among low));
   ordered = subst (AllPairs (AreInOrder term.rising)) (sym steps) (pairs_map (step_of a) ◌<ℤ◌ (AreInOrder term.rising) xs (pos 0) (λ x y h. steps_order a x y term.rising rising other h) up);
   bounds = bounds;
 }
@@ -75,11 +82,12 @@ multiple_worth a xs x found =
     s.worth ∙ All-contains (λ (step : Step). step.worth ≡ a *ℤ step.value) (map (step_of a) xs) s.step (All-map (λ (step : Step). step.worth ≡ a *ℤ step.value) (step_of a) xs (λ k d low. refl)) s.there
     ∙ ap (λ v. a *ℤ v) s.value
 
-pub multiple_is : (L : List VariableLiterals) (a : ℤ) (xs : List ℤ) (term : Term) (values : List ℤ) → term.var < length L → xs ≡ (literals_at L term.var).domain → term.steps.items ≡ map (step_of a) xs → AreOfDomains L values
-    → worth_of values term ≡ a *ℤ number_at values term.var
-unfolding worth_of
-multiple_is L a xs term values low is steps among =
-    ap (λ (ys : List Step). worth_at ys (number_at values term.var)) steps ∙ multiple_worth a xs (number_at values term.var) (subst (λ ys. Contains ys (number_at values term.var)) (sym is) (number_among L values term.var among low))
+pub multiple_is : (L : List VariableLiterals) (a : ℤ) (xs : List ℤ) (x : ℕ) (term : Term) (values : List ℤ) → term.source ≡ source.Variable x → x < length L → xs ≡ (literals_at L x).domain → term.steps.items ≡ map (step_of a) xs → AreOfDomains L values
+    → worth_of values term ≡ a *ℤ number_at values x
+unfolding worth_of source_number
+multiple_is L a xs x term values at low is steps among =
+    ap (λ (ys : List Step). worth_at ys (source_number values term.source)) steps ∙ ap (λ (from : Source). worth_at (map (step_of a) xs) (source_number values from)) at
+    ∙ multiple_worth a xs (number_at values x) (subst (λ ys. Contains ys (number_at values x)) (sym is) (number_among L values x among low))
 
 -- a term and its mirror
 mirrored_values : (xs : List Step) → map (λ (step : Step). step.value) (map mirrored_step xs) ≡ map (λ (step : Step). step.value) xs
@@ -92,10 +100,12 @@ unfolding mirrored_step
 mirrored_order x y true h = (h.0, omega (arith, ints, h.1))
 mirrored_order x y false h = (h.0, omega (arith, ints, h.1))
 
-pub mirror_of : (L : List VariableLiterals) (term twin : Term) → IsTermOf L term → IsMirror term twin → IsTermOf L twin
-mirror_of L term twin of_layout mirror = record {
-  var = subst (λ n. n < length L) (sym mirror.var) of_layout.var;
-  values = ap (map (λ (step : Step). step.value)) mirror.steps ∙ mirrored_values term.steps.items ∙ of_layout.values ∙ ap (λ x. (literals_at L x).domain) (sym mirror.var);
+pub mirror_of : (L : List VariableLiterals) (f : Cnf) (term twin : Term) → IsTermOf L f term → IsMirror term twin → IsTermOf L f twin
+mirror_of L f term twin of_layout mirror = record {
+  names = subst (IsSourceBelow (length L)) (sym mirror.source) of_layout.names;
+  whole = λ values arise. subst (IsWhole values) (sym mirror.source) (of_layout.whole values arise);
+  values = λ values arise. subst (λ (from : Source). Contains (map (λ (step : Step). step.value) twin.steps.items) (source_number values from)) (sym mirror.source)
+      (subst (λ ys. Contains ys (source_number values term.source)) (sym (ap (map (λ (step : Step). step.value)) mirror.steps ∙ mirrored_values term.steps.items)) (of_layout.values values arise));
   ordered = subst (λ (b : Bool). AllPairs (AreInOrder b) twin.steps.items) (sym mirror.rising)
       (subst (AllPairs (AreInOrder (not term.rising))) (sym mirror.steps)
       (pairs_map mirrored_step (AreInOrder term.rising) (AreInOrder (not term.rising)) term.steps.items no_step (λ x y h. mirrored_order x y term.rising h) of_layout.ordered));
@@ -114,8 +124,8 @@ mirrored_worth (s ∷ xs) x = by (int_eq s.value x) (mirrored_worth xs x)
 pub mirror_worth : (values : List ℤ) (term twin : Term) → IsMirror term twin → worth_of values twin ≡ neg_ℤ (worth_of values term)
 unfolding worth_of
 mirror_worth values term twin mirror =
-    ap (λ (xs : List Step). worth_at xs (number_at values twin.var)) mirror.steps ∙ mirrored_worth term.steps.items (number_at values twin.var)
-    ∙ ap (λ x. neg_ℤ (worth_at term.steps.items (number_at values x))) mirror.var
+    ap (λ (xs : List Step). worth_at xs (source_number values twin.source)) mirror.steps ∙ mirrored_worth term.steps.items (source_number values twin.source)
+    ∙ ap (λ (from : Source). neg_ℤ (worth_at term.steps.items (source_number values from))) mirror.source
 
 -- one element more of a list that is made element by element
 pub map_more : {A B : Type 0} (f : A → B) (xs : List A) (i : ℕ) (d : A) (old new : List B) (y : B) → i < length xs → old ≡ map f (take i xs) → new ≡ old ++ y ∷ [] → y ≡ f (get_or xs i d) → new ≡ map f (take (i + 1) xs)
@@ -163,10 +173,12 @@ unfolding raised_step
 raised_order from by x y true natural h = (h.0, raised_rises from by x.worth y.worth natural h.1)
 raised_order from by x y false natural h = (h.0, raised_rises from by y.worth x.worth natural h.1)
 
-pub raised_of : (L : List VariableLiterals) (from by : ℤ) (term high : Term) → pos 0 ≤ℤ by → IsTermOf L term → IsRaised from by term high → IsTermOf L high
-raised_of L from by term high natural of_layout is = record {
-  var = subst (λ n. n < length L) (sym is.var) of_layout.var;
-  values = ap (map (λ (step : Step). step.value)) is.steps ∙ raised_values from by term.steps.items ∙ of_layout.values ∙ ap (λ x. (literals_at L x).domain) (sym is.var);
+pub raised_of : (L : List VariableLiterals) (f : Cnf) (from by : ℤ) (term high : Term) → pos 0 ≤ℤ by → IsTermOf L f term → IsRaised from by term high → IsTermOf L f high
+raised_of L f from by term high natural of_layout is = record {
+  names = subst (IsSourceBelow (length L)) (sym is.source) of_layout.names;
+  whole = λ values arise. subst (IsWhole values) (sym is.source) (of_layout.whole values arise);
+  values = λ values arise. subst (λ (one : Source). Contains (map (λ (step : Step). step.value) high.steps.items) (source_number values one)) (sym is.source)
+      (subst (λ ys. Contains ys (source_number values term.source)) (sym (ap (map (λ (step : Step). step.value)) is.steps ∙ raised_values from by term.steps.items)) (of_layout.values values arise));
   ordered = subst (λ (b : Bool). AllPairs (AreInOrder b) high.steps.items) (sym is.rising)
       (subst (AllPairs (AreInOrder term.rising)) (sym is.steps)
       (pairs_map (raised_step from by) (AreInOrder term.rising) (AreInOrder term.rising) term.steps.items no_step (λ x y h. raised_order from by x y term.rising natural h) of_layout.ordered));
@@ -188,13 +200,12 @@ raised_worth_at from by (s ∷ xs) x (k, low, at) = cases (λ rest. raised_worth
     cases again true e = refl
     cases again false e = again (front e k low at)
 
-pub raised_worth : (L : List VariableLiterals) (from by : ℤ) (values : List ℤ) (term high : Term) → IsTermOf L term → AreOfDomains L values → IsRaised from by term high → worth_of values high ≡ raised from by (worth_of values term)
+pub raised_worth : (L : List VariableLiterals) (f : Cnf) (from by : ℤ) (values : List ℤ) (term high : Term) → IsTermOf L f term → Arise L f values → IsRaised from by term high → worth_of values high ≡ raised from by (worth_of values term)
 unfolding worth_of
-raised_worth L from by values term high of_layout among is =
-    ap (λ (xs : List Step). worth_at xs (number_at values high.var)) is.steps
-    ∙ ap (λ x. worth_at (map (raised_step from by) term.steps.items) (number_at values x)) is.var
-    ∙ raised_worth_at from by term.steps.items (number_at values term.var)
-    (subst (λ xs. Contains xs (number_at values term.var)) (sym of_layout.values) (number_among L values term.var among of_layout.var))
+raised_worth L f from by values term high of_layout arise is =
+    ap (λ (xs : List Step). worth_at xs (source_number values high.source)) is.steps
+    ∙ ap (λ (one : Source). worth_at (map (raised_step from by) term.steps.items) (source_number values one)) is.source
+    ∙ raised_worth_at from by term.steps.items (source_number values term.source) (of_layout.values values arise)
 
 -- a number is at most a raised one exactly where that is raised, or at least as great, if it is no more than what is raised is at least
 pub at_most_raised : (from by n most w : ℤ) → n ≤ℤ most → most ≤ℤ (from +ℤ by) → pos 0 ≤ℤ by → (n ≤ℤ raised from by w) ↔ ((from ≤ℤ w) ⊎ (n ≤ℤ w))

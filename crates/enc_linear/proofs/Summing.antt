@@ -1,7 +1,7 @@
--- Two terms of a sum give way to a new variable that stands for what they come to.
-use Rattle.std.proofs.Common.{◌≡◌, inl, inr, ◌↔◌, ℕ, ◌+◌, ◌<◌, ℤ, pos, neg_ℤ, ◌+ℤ◌, ◌-ℤ◌, ◌*ℤ◌, ◌≤ℤ◌, Bool, true, not, ◌||◌, IsTrue, List, [], ◌∷◌, ◌++◌, length, take, get_or, refl, sym, ap, subst, ◌∙◌, arith}
+-- Two terms of a sum give way to a new one that stands for what they come to.
+use Rattle.std.proofs.Common.{◌≡◌, inl, inr, ◌↔◌, ℕ, ◌+◌, ◌<◌, ℤ, pos, neg_ℤ, ◌+ℤ◌, ◌-ℤ◌, ◌≤ℤ◌, Bool, true, IsTrue, List, [], ◌∷◌, ◌++◌, length, take, get_or, refl, sym, ap, subst, ◌∙◌, arith}
 use Rattle.std.specs.List.{All, Any, Contains}
-use Rattle.std.specs.Prelude.{Err, IfOk, MatchOption, None, Ok, OnOk, Option, Result, Some, is_some}
+use Rattle.std.specs.Prelude.{Err, IfOk, MatchOption, None, Ok, OnOk, Option, Result, Some}
 use Rattle.std.proofs.lemmas.Int.{ints}
 use Rattle.std.proofs.lemmas.List.{get_or_append_left, length-append}
 use Rattle.std.proofs.lemmas.List.Elements.{All-cons, All-contains, All-head, All-more, All-nil, All-tail, All-weaker}
@@ -10,69 +10,54 @@ use Rattle.cnf_core.specs.Formula.{Cnf}
 use Rattle.ep_base.specs.Numbers.{compare_holds, sum_of}
 use Rattle.ep_base.specs.Runs.{IsIn}
 use Rattle.ep_base.specs.declared.run_lists.Run.{Run}
-use Rattle.ep_flat.specs.Cons.{is_as_said, number_at}
-use Rattle.enc_atoms.proofs.Adding.{adds_both, adds_like, adds_variable}
-use Rattle.enc_atoms.proofs.Decoded.{among_push, length_among, number_before, number_last}
-use Rattle.enc_atoms.specs.Atoms.{Adds, AreOfDomains, HasNumber}
+use Rattle.ep_flat.specs.Cons.{is_as_said}
+use Rattle.enc_atoms.proofs.Adding.{adds_both, goes_further}
+use Rattle.enc_atoms.proofs.Decoded.{number_front}
+use Rattle.enc_atoms.specs.Atoms.{Adds}
+use Rattle.enc_linear.proofs.Arising.{arise_earlier, term_later, terms_later, worth_front}
 use Rattle.enc_linear.proofs.Clipping.{NoGreater, NoLess, IsClipOver, clip_over, clipped_near, said_beyond, same_beyond, worth_within}
 use Rattle.enc_linear.proofs.Ladders.{stands_of}
 use Rattle.enc_linear.proofs.Multiples.{at_most_raised, mirror_worth, raised_worth}
+use Rattle.enc_linear.proofs.NewTerms.{IsChosen, adds_term}
 use Rattle.enc_linear.proofs.Saying.{no_guard}
 use Rattle.enc_linear.proofs.Turns.{nothing_new, relabelled, then_both}
-use Rattle.enc_linear.specs.Bounds.{Compares, HasBounds, HasSums, IsRaised, Reaches, StandsForSum, StaysWithin, clipped, is_lower, is_upper, needs_no_greater, needs_no_less}
+use Rattle.enc_linear.specs.Bounds.{Compares, HasBounds, HasSums, IsRaised, Reaches, StandsForSum, StaysWithin, clipped, needs_no_greater, needs_no_less}
 use Rattle.enc_linear.specs.Folding.{GiveWay}
 use Rattle.enc_linear.specs.Guards.{Unless}
-use Rattle.enc_linear.specs.Terms.{IsMirror, IsTermOf, total, worth_at, worth_of}
+use Rattle.enc_linear.specs.Ladders.{HasTerm}
+use Rattle.enc_linear.specs.Sources.{source_number}
+use Rattle.enc_linear.specs.Terms.{Arise, IsMirror, IsTermOf, total, worth_at, worth_of}
 use Rattle.enc_linear.specs.declared.bounds.Bounds.{Bounds}
 use Rattle.enc_linear.specs.declared.comparison.Comparison.{Comparison}
 use Rattle.enc_linear.specs.declared.terms.Step.{Step}
 use Rattle.enc_linear.specs.declared.terms.Term.{Term}
 use Rattle.enc_var.specs.Decoding.{VariableLiterals}
-use Rattle.enc_var.specs.Layouts.{GoesOn, HasFreeChoice, IsLayoutOf, literals_at}
+use Rattle.enc_var.specs.Layouts.{IsLayoutOf}
 
--- what a term and a sum are worth doesn't depend on a later variable
-pub worth_before : (L : List VariableLiterals) (t : Term) (values : List ℤ) (v : ℤ) → IsTermOf L t → AreOfDomains L values → worth_of (values ++ v ∷ []) t ≡ worth_of values t
-unfolding worth_of
-worth_before L t values v of_layout among = ap (worth_at t.steps.items) (number_before values v t.var (omega (arith, length_among L values among, of_layout.var)))
-
-pub total_before : (L : List VariableLiterals) (terms : List Term) (values : List ℤ) (v : ℤ) → All (IsTermOf L) terms → AreOfDomains L values → total (values ++ v ∷ []) terms ≡ total values terms
+-- what a sum comes to and what is said of it doesn't depend on later variables
+pub total_front : (L : List VariableLiterals) (f : Cnf) (terms : List Term) (values : List ℤ) → All (IsTermOf L f) terms → total (take (length L) values) terms ≡ total values terms
 unfolding total sum_of
-total_before L [] values v of_layout among = refl
-total_before L (t ∷ terms) values v of_layout among =
-    let rest = total_before L terms values v (All-tail (IsTermOf L) t terms of_layout) among in
-    let here = worth_before L t values v (All-head (IsTermOf L) t terms of_layout) among in
+total_front L f [] values of_layout = refl
+total_front L f (t ∷ terms) values of_layout =
+    let rest = total_front L f terms values (All-tail (IsTermOf L f) t terms of_layout) in
+    let here = worth_front values (length L) t (All-head (IsTermOf L f) t terms of_layout).names in
     omega (arith, ints, rest, here)
 
-pub said_before : (values : List ℤ) (v : ℤ) (n : ℕ) (truth : Option ℕ) (h : Bool) → length values ≡ n → MatchOption truth (n ≡ n) (λ t. t < n) → is_as_said (values ++ v ∷ []) truth h ≡ is_as_said values truth h
+pub said_front : (values : List ℤ) (n : ℕ) (truth : Option ℕ) (h : Bool) → MatchOption truth (n ≡ n) (λ t. t < n) → is_as_said (take n values) truth h ≡ is_as_said values truth h
 unfolding is_as_said
-said_before values v n None h long low = refl
-said_before values v n (Some t) h long low = rw (number_before values v t (omega (arith, long, low))) refl
-
--- a term of a layout is one of a longer layout
-literals_before : (L : List VariableLiterals) (e : VariableLiterals) (x : ℕ) → x < length L → literals_at (L ++ e ∷ []) x ≡ literals_at L x
-literals_before L e x low = get_or_append_left L (e ∷ []) (record { domain = []; first = 0 }) x low
-
-pub term_before : (L : List VariableLiterals) (e : VariableLiterals) (t : Term) → IsTermOf L t → IsTermOf (L ++ e ∷ []) t
-term_before L e t of_layout = record {
-  var = omega (arith, of_layout.var, length-append L (e ∷ []));
-  values = of_layout.values ∙ ap (λ (x : VariableLiterals). x.domain) (sym (literals_before L e t.var of_layout.var));
-  ordered = of_layout.ordered;
-  bounds = of_layout.bounds;
-}
-
-pub terms_before : (L : List VariableLiterals) (e : VariableLiterals) (terms : List Term) → All (IsTermOf L) terms → All (IsTermOf (L ++ e ∷ [])) terms
-terms_before L e terms h = All-weaker (IsTermOf L) (IsTermOf (L ++ e ∷ [])) (λ t one. term_before L e t one) terms h
+said_front values n None h low = refl
+said_front values n (Some t) h low = rw (number_front values n t low) refl
 
 -- the sum of what two terms are worth, within a clip, is among the sums of their steps
-pub has_sum : (low high : ℤ) (L : List VariableLiterals) (domain : List ℤ) (first second : Term) (values : List ℤ) → IsTermOf L first → IsTermOf L second → AreOfDomains L values → HasSums low high domain first second
-    → Contains domain (clipped low high (worth_of values first +ℤ worth_of values second))
+pub has_sum : (low high : ℤ) (L : List VariableLiterals) (f : Cnf) (numbers : List ℤ) (first second : Term) (values : List ℤ) → IsTermOf L f first → IsTermOf L f second → Arise L f values → HasSums low high numbers first second
+    → Contains numbers (clipped low high (worth_of values first +ℤ worth_of values second))
 unfolding worth_of
-has_sum low high L domain first second values of_first of_second among has =
-    let a = stands_of L first values of_first among in
-    let b = stands_of L second values of_second among in
-    let row = All-contains (λ (x : Step). All (λ (y : Step). Contains domain (clipped low high (x.worth +ℤ y.worth))) second.steps.items) first.steps.items a.step has a.there in
-    let cell = All-contains (λ (y : Step). Contains domain (clipped low high (a.step.worth +ℤ y.worth))) second.steps.items b.step row b.there in
-    subst (λ n. Contains domain (clipped low high n)) (ap (λ n. n +ℤ b.step.worth) (sym a.worth) ∙ ap (λ n. worth_at first.steps.items (number_at values first.var) +ℤ n) (sym b.worth)) cell
+has_sum low high L f numbers first second values of_first of_second arise has =
+    let a = stands_of L f first values of_first arise in
+    let b = stands_of L f second values of_second arise in
+    let row = All-contains (λ (x : Step). All (λ (y : Step). Contains numbers (clipped low high (x.worth +ℤ y.worth))) second.steps.items) first.steps.items a.step has a.there in
+    let cell = All-contains (λ (y : Step). Contains numbers (clipped low high (a.step.worth +ℤ y.worth))) second.steps.items b.step row b.there in
+    subst (λ n. Contains numbers (clipped low high n)) (ap (λ n. n +ℤ b.step.worth) (sym a.worth) ∙ ap (λ n. worth_at first.steps.items (source_number values first.source) +ℤ n) (sym b.worth)) cell
 
 -- what terms come to, with one or two in front
 pub total_one : (values : List ℤ) (term : Term) (terms : List Term) → total values (term ∷ terms) ≡ total values terms +ℤ worth_of values term
@@ -83,126 +68,79 @@ pub total_two : (values : List ℤ) (first second : Term) (terms : List Term) �
 unfolding total sum_of
 total_two values first second terms = omega (arith, ints)
 
--- there is a number for the new variable with which the later sum compares as it should exactly where the earlier one does
-pub joined_same : (L : List VariableLiterals) (e : VariableLiterals) (others : List Term) (first second sum : Term) (c : Comparison) (low high : ℤ) (values : List ℤ)
-    → All (IsTermOf L) others → IsTermOf L first → IsTermOf L second → MatchOption c.truth (length L ≡ length L) (λ t. t < length L)
-    → ((vs : List ℤ) → AreOfDomains (L ++ e ∷ []) vs → worth_of vs sum ≡ pos 1 *ℤ number_at vs (length L)) → HasSums low high e.domain first second
-    → IsClipOver low high c.number (total values others) → AreOfDomains L values
-    → HasNumber e.domain (λ v. StandsForSum c low high first second sum (values ++ v ∷ []) × Compares c (sum ∷ others) (values ++ v ∷ [])) ↔ Compares c (first ∷ second ∷ others) values
-unfolding needs_no_less needs_no_greater
-joined_same L e others first second sum c low high values of_others of_first of_second low_truth worth has clip among = (forth, back)
-  where
-    long : length values ≡ length L
-    long = length_among L values among
-
-    both : ℤ
-    both = worth_of values first +ℤ worth_of values second
-
-    rest : ℤ
-    rest = total values others
-
-    there : (v : ℤ) → ℤ
-    there v = worth_of (values ++ v ∷ []) sum
-
-    parts : (v : ℤ) → worth_of (values ++ v ∷ []) first +ℤ worth_of (values ++ v ∷ []) second ≡ both
-    parts v =
-        let a = worth_before L first values v of_first among in
-        let b = worth_before L second values v of_second among in
-        omega (arith, ints, a, b)
-
-    later : (v : ℤ) → total (values ++ v ∷ []) (sum ∷ others) ≡ rest +ℤ there v
-    later v = let a = total_one (values ++ v ∷ []) sum others in let b = total_before L others values v of_others among in omega (arith, ints, a, b)
-
-    less : (v : ℤ) → StandsForSum c low high first second sum (values ++ v ∷ []) → (is_some c.truth || not (is_upper c.op)) ≡ true → NoLess high both (there v)
-    less v tie need =
-        let e = parts v in
-        elim (tie.no_less need) as (λ _. NoLess high both (there v)) [ inl far ↦ inl far | inr near ↦ inr (omega (arith, ints, near, e)) ]
-
-    greater : (v : ℤ) → StandsForSum c low high first second sum (values ++ v ∷ []) → (is_some c.truth || not (is_lower c.op)) ≡ true → NoGreater low both (there v)
-    greater v tie need =
-        let e = parts v in
-        elim (tie.no_greater need) as (λ _. NoGreater low both (there v)) [ inl far ↦ inl far | inr near ↦ inr (omega (arith, ints, near, e)) ]
-
-    -- what is said with the later numbers is said with the earlier ones
-    same_truth : (v : ℤ) (h : Bool) → is_as_said (values ++ v ∷ []) c.truth h ≡ is_as_said values c.truth h
-    same_truth v h = said_before values v (length L) c.truth h long low_truth
-
-    whole : compare_holds c.op (total values (first ∷ second ∷ others)) c.number ≡ compare_holds c.op (rest +ℤ both) c.number
-    whole = ap (λ n. compare_holds c.op n c.number) (total_two values first second others)
-
-    forth : HasNumber e.domain (λ v. StandsForSum c low high first second sum (values ++ v ∷ []) × Compares c (sum ∷ others) (values ++ v ∷ [])) → Compares c (first ∷ second ∷ others) values
-    forth h =
-        let v : ℤ = h.number in
-        let said : IsTrue (is_as_said values c.truth (compare_holds c.op (rest +ℤ there v) c.number)) =
-        sym (ap (λ n. is_as_said values c.truth (compare_holds c.op n c.number)) (later v))
-        ∙ sym (same_truth v (compare_holds c.op (total (values ++ v ∷ []) (sum ∷ others)) c.number)) ∙ h.holds_there.1 in
-        ap (is_as_said values c.truth) whole
-        ∙ said_beyond values c.truth c.op low high c.number rest both (there v) clip (less v h.holds_there.0) (greater v h.holds_there.0) said
-
-    v : ℤ
-    v = clipped low high both
-
-    found : Contains e.domain v
-    found = has_sum low high L e.domain first second values of_first of_second among has
-
-    is : there v ≡ v
-    is =
-        let a = worth (values ++ v ∷ []) (among_push L e values v among found) in
-        let b = number_last values v (length L) (sym long) in
-        omega (arith, ints, a, b)
-
-    near : NoLess high both (there v) × NoGreater low both (there v)
-    near = subst (λ n. NoLess high both n × NoGreater low both n) (sym is) (clipped_near low high both)
-
-    tie : StandsForSum c low high first second sum (values ++ v ∷ [])
-    tie =
-        let e = parts v in
-        record {
-          no_less = λ need. elim near.0 as (λ _. Reaches high first second sum (values ++ v ∷ [])) [ inl far ↦ inl far | inr on ↦ inr (omega (arith, ints, on, e)) ];
-          no_greater = λ need. elim near.1 as (λ _. StaysWithin low first second sum (values ++ v ∷ [])) [ inl far ↦ inl far | inr on ↦ inr (omega (arith, ints, on, e)) ];
-        }
-
-    back : Compares c (first ∷ second ∷ others) values → HasNumber e.domain (λ v. StandsForSum c low high first second sum (values ++ v ∷ []) × Compares c (sum ∷ others) (values ++ v ∷ []))
-    back h = record {
-      number = v;
-      among = found;
-      holds_there = (
-        tie,
-        same_truth v (compare_holds c.op (total (values ++ v ∷ []) (sum ∷ others)) c.number)
-            ∙ ap (λ n. is_as_said values c.truth (compare_holds c.op n c.number)) (later v)
-            ∙ ap (is_as_said values c.truth) (same_beyond c.op low high c.number rest both (there v) clip near.0 near.1)
-            ∙ sym (ap (is_as_said values c.truth) whole) ∙ h,
-      );
-    }
-
--- a term of a layout is one of the layout with a variable more
-pub term_then : (L L1 : List VariableLiterals) (e : VariableLiterals) (t : Term) → L1 ≡ L ++ e ∷ [] → IsTermOf L t → IsTermOf L1 t
-term_then L L1 e t is h = subst (λ (M : List VariableLiterals). IsTermOf M t) (sym is) (term_before L e t h)
-
--- the whole step
-pub joined_terms : (L : List VariableLiterals) (f : Cnf) (L1 : List VariableLiterals) (f1 f2 : Cnf) (e : VariableLiterals) (others : List Term) (first second sum : Term) (c : Comparison) (rest : Bounds) (low high a number : ℤ) (x : ℕ)
-    → IsLayoutOf L f → IsTermOf L first → IsTermOf L second → MatchOption c.truth (length L ≡ length L) (λ t. t < length L)
+-- the whole step: there is a number for the new term with which the later sum compares as it should exactly where the earlier one does
+pub joined_terms : (L : List VariableLiterals) (f : Cnf) (L1 : List VariableLiterals) (f1 f2 : Cnf) (numbers : List ℤ) (others : List Term) (first second sum : Term) (c : Comparison) (rest : Bounds) (low high number : ℤ)
+    → IsLayoutOf L f → IsTermOf L f first → IsTermOf L f second → MatchOption c.truth (length L ≡ length L) (λ t. t < length L)
     → low ≡ (number -ℤ rest.greatest) -ℤ pos 1 → high ≡ (number -ℤ rest.least) +ℤ pos 1 → number ≡ c.number
-    → L1 ≡ L ++ e ∷ [] → GoesOn L f L1 f1 → HasFreeChoice f e f1
-    → IsTermOf L1 sum → ((values : List ℤ) → AreOfDomains L1 values → worth_of values sum ≡ a *ℤ number_at values x) → x ≡ length L → a ≡ pos 1 → HasSums low high e.domain first second
-    → Adds L1 f1 L1 f2 (StandsForSum c low high first second sum) → All (IsTermOf L) others → HasBounds rest others → GiveWay c L f (first ∷ second ∷ others) L1 f2 (sum ∷ others)
-joined_terms L f L1 f1 f2 e others first second sum c rest low high a number x is_layout of_first of_second low_truth is_low is_high same pushed goes free of_sum worth at unit has tie of_others bounds = record {
+    → HasTerm L f L1 f1 numbers sum → HasSums low high numbers first second
+    → Adds L1 f1 L1 f2 (StandsForSum c low high first second sum) → All (IsTermOf L f) others → HasBounds rest others → GiveWay c L f (first ∷ second ∷ others) L1 f2 (sum ∷ others)
+unfolding needs_no_less needs_no_greater
+joined_terms L f L1 f1 f2 numbers others first second sum c rest low high number is_layout of_first of_second low_truth is_low is_high same new has tie of_others bounds = record {
   from_new = tie.goes_on.from_new;
   is_layout = tie.goes_on.is_layout;
-  earlier = goes.earlier;
-  of_layout = All-cons (IsTermOf L1) sum others of_sum (subst (λ (M : List VariableLiterals). All (IsTermOf M) others) (sym pushed) (terms_before L e others of_others));
+  earlier = new.goes_on.earlier;
+  of_layout = All-cons (IsTermOf L1 f2) sum others (term_later L1 f1 L1 f2 sum tie.goes_on new.of_layout) (terms_later L f L1 f2 others (goes_further L f L1 f1 L1 f2 new.goes_on tie.goes_on) of_others);
   leads = λ last h added.
-      adds_like L f last h (λ values. HasNumber e.domain (λ v. Q (values ++ v ∷ []))) (Compares c (first ∷ second ∷ others)) is_layout
-      (adds_variable L f L1 f1 e last h Q is_layout pushed goes free (adds_both L1 f1 f2 last h (StandsForSum c low high first second sum) (Compares c (sum ∷ others)) goes.is_layout tie added))
-      (λ values among. joined_same L e others first second sum c low high values of_others of_first of_second low_truth worth' has
-      (clip_over L others rest c.number low high values of_others bounds among (subst (λ n. low ≡ (n -ℤ rest.greatest) -ℤ pos 1) same is_low) (subst (λ n. high ≡ (n -ℤ rest.least) +ℤ pos 1) same is_high)) among);
+      adds_term L f L1 f1 last h numbers sum Q (Compares c (first ∷ second ∷ others)) is_layout new
+      (adds_both L1 f1 f2 last h (StandsForSum c low high first second sum) (Compares c (sum ∷ others)) new.goes_on.is_layout tie added)
+      (λ later a q. forth later a q.0 q.1)
+      (λ values a said. chosen values a said);
 }
   where
     Q : List ℤ → Type 0
     Q values = StandsForSum c low high first second sum values × Compares c (sum ∷ others) values
 
-    worth' : (vs : List ℤ) → AreOfDomains (L ++ e ∷ []) vs → worth_of vs sum ≡ pos 1 *ℤ number_at vs (length L)
-    worth' vs among = worth vs (subst (λ (M : List VariableLiterals). AreOfDomains M vs) (sym pushed) among) ∙ ap (λ n. n *ℤ number_at vs x) unit ∙ ap (λ y. pos 1 *ℤ number_at vs y) at
+    clip : (values : List ℤ) → Arise L f values → IsClipOver low high c.number (total values others)
+    clip values a = clip_over L f others rest c.number low high values of_others bounds a (subst (λ n. low ≡ (n -ℤ rest.greatest) -ℤ pos 1) same is_low) (subst (λ n. high ≡ (n -ℤ rest.least) +ℤ pos 1) same is_high)
+
+    -- what later numbers come to
+    parts : (later : List ℤ) → (worth_of (take (length L) later) first +ℤ worth_of (take (length L) later) second) ≡ (worth_of later first +ℤ worth_of later second)
+    parts later =
+        let a = worth_front later (length L) first of_first.names in
+        let b = worth_front later (length L) second of_second.names in
+        omega (arith, ints, a, b)
+
+    later_total : (later : List ℤ) → total later (sum ∷ others) ≡ total (take (length L) later) others +ℤ worth_of later sum
+    later_total later = let a = total_one later sum others in let b = total_front L f others later of_others in omega (arith, ints, a, b)
+
+    whole : (values : List ℤ) → compare_holds c.op (total values (first ∷ second ∷ others)) c.number ≡ compare_holds c.op (total values others +ℤ (worth_of values first +ℤ worth_of values second)) c.number
+    whole values = ap (λ n. compare_holds c.op n c.number) (total_two values first second others)
+
+    forth : (later : List ℤ) → Arise L1 f1 later → StandsForSum c low high first second sum later → Compares c (sum ∷ others) later → Compares c (first ∷ second ∷ others) (take (length L) later)
+    forth later a stands said =
+        let values : List ℤ = take (length L) later in
+        let e = parts later in
+        let n : ℤ = worth_of later sum in
+        let here : IsTrue (is_as_said values c.truth (compare_holds c.op (total values others +ℤ n) c.number)) =
+        sym (ap (λ m. is_as_said values c.truth (compare_holds c.op m c.number)) (later_total later))
+        ∙ said_front later (length L) c.truth (compare_holds c.op (total later (sum ∷ others)) c.number) low_truth ∙ said in
+        ap (is_as_said values c.truth) (whole values)
+        ∙ said_beyond values c.truth c.op low high c.number (total values others) (worth_of values first +ℤ worth_of values second) n (clip values (arise_earlier L f L1 f1 later new.goes_on a))
+        (λ need. elim (stands.no_less need) as (λ _. NoLess high (worth_of values first +ℤ worth_of values second) n) [ inl far ↦ inl far | inr near ↦ inr (omega (arith, ints, near, e)) ])
+        (λ need. elim (stands.no_greater need) as (λ _. NoGreater low (worth_of values first +ℤ worth_of values second) n) [ inl far ↦ inl far | inr near ↦ inr (omega (arith, ints, near, e)) ])
+        here
+
+    reached : (values later : List ℤ) → Arise L f values → Compares c (first ∷ second ∷ others) values → take (length L) later ≡ values → worth_of later sum ≡ clipped low high (worth_of values first +ℤ worth_of values second) → Q later
+    reached values later a said front is =
+        let e : (worth_of values first +ℤ worth_of values second) ≡ (worth_of later first +ℤ worth_of later second) = ap (λ vs. worth_of vs first +ℤ worth_of vs second) (sym front) ∙ parts later in
+        let near : NoLess high (worth_of values first +ℤ worth_of values second) (worth_of later sum) × NoGreater low (worth_of values first +ℤ worth_of values second) (worth_of later sum) = subst (λ n. NoLess high (worth_of values first +ℤ worth_of values second) n × NoGreater low (worth_of values first +ℤ worth_of values second) n) (sym is) (clipped_near low high (worth_of values first +ℤ worth_of values second)) in (
+          record {
+            no_less = λ need. elim near.0 as (λ _. Reaches high first second sum later) [ inl far ↦ inl far | inr on ↦ inr (omega (arith, ints, on, e)) ];
+            no_greater = λ need. elim near.1 as (λ _. StaysWithin low first second sum later) [ inl far ↦ inl far | inr on ↦ inr (omega (arith, ints, on, e)) ];
+          },
+          sym (said_front later (length L) c.truth (compare_holds c.op (total later (sum ∷ others)) c.number) low_truth)
+              ∙ ap (λ m. is_as_said (take (length L) later) c.truth (compare_holds c.op m c.number)) (later_total later)
+              ∙ ap (λ vs. is_as_said vs c.truth (compare_holds c.op (total vs others +ℤ worth_of later sum) c.number)) front
+              ∙ ap (is_as_said values c.truth) (same_beyond c.op low high c.number (total values others) (worth_of values first +ℤ worth_of values second) (worth_of later sum) (clip values a) near.0 near.1)
+              ∙ sym (ap (is_as_said values c.truth) (whole values)) ∙ said,
+        )
+
+    chosen : (values : List ℤ) → Arise L f values → Compares c (first ∷ second ∷ others) values → IsChosen L1 f1 numbers sum (length L) values Q
+    chosen values a said = record {
+      number = clipped low high (worth_of values first +ℤ worth_of values second);
+      among = has_sum low high L f numbers first second values of_first of_second a has;
+      leads = λ later arise front is. reached values later a said front is;
+    }
 
 -- an element stays where one is added
 pub any_before : (number : ℤ) (old new : List Run) (r : Run) → new ≡ old ++ r ∷ [] → Any (IsIn number) old → Any (IsIn number) new
@@ -271,14 +209,14 @@ reordered r L f g one other m is_layout added is same =
     relabelled r L f L g (Unless [] (λ vs. one vs ≤ℤ m)) (λ vs. other vs ≤ℤ pos 0) is_layout (λ values among. in_any_order one other m values is (same values)) added
 
 -- two terms and the opposite of a raised one come to at most 0 exactly where that one is worth as much, or at least the number from which it is raised
-pub reaches_so : (L : List VariableLiterals) (values : List ℤ) (first second sum high opposite : Term) (from by end : ℤ) → IsTermOf L first → IsTermOf L second → IsTermOf L sum → AreOfDomains L values
+pub reaches_so : (L : List VariableLiterals) (f : Cnf) (values : List ℤ) (first second sum high opposite : Term) (from by end : ℤ) → IsTermOf L f first → IsTermOf L f second → IsTermOf L f sum → Arise L f values
     → IsRaised from by sum high → IsMirror high opposite → pos 0 ≤ℤ by → (first.bounds.greatest +ℤ second.bounds.greatest) ≤ℤ (from +ℤ by) → from ≡ end
     → ((worth_of values first +ℤ (worth_of values second +ℤ worth_of values opposite)) ≤ℤ pos 0) ↔ Reaches end first second sum values
-reaches_so L values first second sum high opposite from by end of_first of_second of_sum among raises mirror natural far is =
-    let a = worth_within L first values of_first among in
-    let b = worth_within L second values of_second among in
+reaches_so L f values first second sum high opposite from by end of_first of_second of_sum among raises mirror natural far is =
+    let a = worth_within L f first values of_first among in
+    let b = worth_within L f second values of_second among in
     let d = mirror_worth values high opposite mirror in
-    let g = raised_worth L from by values sum high of_sum among raises in
+    let g = raised_worth L f from by values sum high of_sum among raises in
     let same = at_most_raised from by (worth_of values first +ℤ worth_of values second) (first.bounds.greatest +ℤ second.bounds.greatest) (worth_of values sum) (omega (arith, ints, a.1, b.1)) far natural in
     subst (λ n. ((worth_of values first +ℤ (worth_of values second +ℤ worth_of values opposite)) ≤ℤ pos 0) ↔ Reaches n first second sum values) is
     (λ h. same.0 (omega (arith, ints, h, d, g)), λ h. let low = same.1 h in omega (arith, ints, low, d, g))

@@ -111,12 +111,12 @@ equal_is n o c m k p e d = (
 )
 
 -- the mirrors of terms are of their layout, and come to the opposite sum
-pub mirrors_of_layout : (L : List VariableLiterals) (terms mirrors : List Term) → All (IsTermOf L) terms → AllZip IsMirror terms mirrors → All (IsTermOf L) mirrors
-mirrors_of_layout L [] [] h z = All-nil (IsTermOf L)
-mirrors_of_layout L [] (m ∷ mirrors) h z = absurd z
-mirrors_of_layout L (t ∷ terms) [] h z = absurd z
-mirrors_of_layout L (t ∷ terms) (m ∷ mirrors) h z =
-    All-cons (IsTermOf L) m mirrors (mirror_of L t m (All-head (IsTermOf L) t terms h) z.0) (mirrors_of_layout L terms mirrors (All-tail (IsTermOf L) t terms h) z.1)
+pub mirrors_of_layout : (L : List VariableLiterals) (f : Cnf) (terms mirrors : List Term) → All (IsTermOf L f) terms → AllZip IsMirror terms mirrors → All (IsTermOf L f) mirrors
+mirrors_of_layout L f [] [] h z = All-nil (IsTermOf L f)
+mirrors_of_layout L f [] (m ∷ mirrors) h z = absurd z
+mirrors_of_layout L f (t ∷ terms) [] h z = absurd z
+mirrors_of_layout L f (t ∷ terms) (m ∷ mirrors) h z =
+    All-cons (IsTermOf L f) m mirrors (mirror_of L f t m (All-head (IsTermOf L f) t terms h) z.0) (mirrors_of_layout L f terms mirrors (All-tail (IsTermOf L f) t terms h) z.1)
 
 pub mirrors_opposite : (terms mirrors : List Term) → AllZip IsMirror terms mirrors → (values : List ℤ) → total values mirrors ≡ neg_ℤ (total values terms)
 unfolding total sum_of
@@ -250,7 +250,7 @@ linear_from r L f L1 g truth op n w m number is_layout added same sums =
     relabelled r L f L1 g (λ values. IsTrue (is_as_said values truth (compare_holds op (n values) m))) (λ values. IsTrue (is_as_said values truth (compare_holds op (w values) number))) is_layout
     (λ values among.
     let e : is_as_said values truth (compare_holds op (n values) m) ≡ is_as_said values truth (compare_holds op (w values) number) =
-    ap (λ k. is_as_said values truth (compare_holds op (n values) k)) same ∙ ap (λ k. is_as_said values truth (compare_holds op k number)) (sums values among) in
+    ap (λ k. is_as_said values truth (compare_holds op (n values) k)) same ∙ ap (λ k. is_as_said values truth (compare_holds op k number)) (sums values among.among) in
     (λ h. sym e ∙ h, λ h. e ∙ h)) added
 
 pub equal_said : {T E : Type 0} (r : Result T E) (L : List VariableLiterals) (f : Cnf) (L1 : List VariableLiterals) (g : Cnf) (guards : List Atom) (n : List ℤ → ℤ) (op : CompareOp) (m number : ℤ) → IsLayoutOf L f

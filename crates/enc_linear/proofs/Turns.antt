@@ -7,11 +7,13 @@ use Rattle.std.proofs.lemmas.List.Elements.{All-get_or, All-more, All-nil, All-t
 use Rattle.cnf_core.specs.Formula.{Cnf}
 use Rattle.enc_var.specs.Decoding.{VariableLiterals}
 use Rattle.enc_var.specs.Layouts.{IsLayoutOf}
-use Rattle.enc_atoms.proofs.Adding.{adds_both, adds_like, adds_nothing}
-use Rattle.enc_atoms.specs.Atoms.{Adds, AreOfDomains}
+use Rattle.enc_atoms.proofs.Adding.{adds_both, adds_nothing}
+use Rattle.enc_atoms.specs.Atoms.{Adds}
+use Rattle.enc_linear.proofs.Arising.{adds_like}
+use Rattle.enc_linear.specs.Terms.{Arise}
 
 -- what always holds needs no clause
-pub nothing_new : (L : List VariableLiterals) (f : Cnf) (R : List ℤ → Type 0) → IsLayoutOf L f → IsTrue f.from_new → ((values : List ℤ) → AreOfDomains L values → R values) → Adds L f L f R
+pub nothing_new : (L : List VariableLiterals) (f : Cnf) (R : List ℤ → Type 0) → IsLayoutOf L f → IsTrue f.from_new → ((values : List ℤ) → Arise L f values → R values) → Adds L f L f R
 nothing_new L f R is_layout from_new holds =
     adds_like L f L f (λ values. Unit {0}) R is_layout (adds_nothing L f is_layout from_new) (λ values among. (λ u. holds values among, λ h. tt))
 
@@ -37,7 +39,7 @@ one_more L f f1 f2 Q xs i d is_layout low before turn =
 
 -- all turns
 pub all_turns : {X : Type 0} (L : List VariableLiterals) (f f1 : Cnf) (Q : List ℤ → X → Type 0) (R : List ℤ → Type 0) (xs : List X) (n : ℕ) → IsLayoutOf L f → length xs ≤ n
-    → Adds L f L f1 (λ values. All (Q values) (take n xs)) → ((values : List ℤ) → AreOfDomains L values → All (Q values) xs ↔ R values) → Adds L f L f1 R
+    → Adds L f L f1 (λ values. All (Q values) (take n xs)) → ((values : List ℤ) → Arise L f values → All (Q values) xs ↔ R values) → Adds L f L f1 R
 all_turns L f f1 Q R xs n is_layout long added same =
     let whole = take_all n xs long in
     adds_like L f L f1 (λ values. All (Q values) (take n xs)) R is_layout added
@@ -58,7 +60,7 @@ one_more_beside L f f1 f2 A Q xs i d is_layout low before turn =
 
 -- a turn that what was added beside says already
 pub passed_beside : {X : Type 0} (L : List VariableLiterals) (f f1 : Cnf) (A : List ℤ → Type 0) (Q : List ℤ → X → Type 0) (xs : List X) (i : ℕ) (d : X) → IsLayoutOf L f → i < length xs
-    → Adds L f L f1 (λ values. A values × All (Q values) (take i xs)) → ((values : List ℤ) → AreOfDomains L values → A values → Q values (get_or xs i d))
+    → Adds L f L f1 (λ values. A values × All (Q values) (take i xs)) → ((values : List ℤ) → Arise L f values → A values → Q values (get_or xs i d))
     → Adds L f L f1 (λ values. A values × All (Q values) (take (i + 1) xs))
 passed_beside L f f1 A Q xs i d is_layout low before holds =
     adds_like L f L f1 (λ values. A values × All (Q values) (take i xs)) (λ values. A values × All (Q values) (take (i + 1) xs)) is_layout before
@@ -66,7 +68,7 @@ passed_beside L f f1 A Q xs i d is_layout low before holds =
 
 -- all turns beside what was added
 pub all_turns_beside : {X : Type 0} (L : List VariableLiterals) (f f1 : Cnf) (A : List ℤ → Type 0) (Q : List ℤ → X → Type 0) (R : List ℤ → Type 0) (xs : List X) (n : ℕ) → IsLayoutOf L f → length xs ≤ n
-    → Adds L f L f1 (λ values. A values × All (Q values) (take n xs)) → ((values : List ℤ) → AreOfDomains L values → (A values × All (Q values) xs) ↔ R values) → Adds L f L f1 R
+    → Adds L f L f1 (λ values. A values × All (Q values) (take n xs)) → ((values : List ℤ) → Arise L f values → (A values × All (Q values) xs) ↔ R values) → Adds L f L f1 R
 all_turns_beside L f f1 A Q R xs n is_layout long added same =
     let whole = take_all n xs long in
     adds_like L f L f1 (λ values. A values × All (Q values) (take n xs)) R is_layout added
@@ -74,12 +76,12 @@ all_turns_beside L f f1 A Q R xs n is_layout long added same =
 
 -- the same in other words, where there is memory
 pub relabelled : {T E : Type 0} (r : Result T E) (L : List VariableLiterals) (f : Cnf) (L1 : List VariableLiterals) (g : Cnf) (P R : List ℤ → Type 0) → IsLayoutOf L f
-    → ((values : List ℤ) → AreOfDomains L values → P values ↔ R values) → OnOk r (Adds L f L1 g P) → OnOk r (Adds L f L1 g R)
+    → ((values : List ℤ) → Arise L f values → P values ↔ R values) → OnOk r (Adds L f L1 g P) → OnOk r (Adds L f L1 g R)
 relabelled (Ok x) L f L1 g P R is_layout same added = adds_like L f L1 g P R is_layout added same
 relabelled (Err e) L f L1 g P R is_layout same added = tt
 
 -- a step behind others, where there is memory
 pub then_both : {T E : Type 0} (r : Result T E) (L : List VariableLiterals) (f f1 : Cnf) (g : Cnf) (P Q R : List ℤ → Type 0) → IsLayoutOf L f → Adds L f L f1 P
-    → ((values : List ℤ) → AreOfDomains L values → (P values × Q values) ↔ R values) → OnOk r (Adds L f1 L g Q) → OnOk r (Adds L f L g R)
+    → ((values : List ℤ) → Arise L f values → (P values × Q values) ↔ R values) → OnOk r (Adds L f1 L g Q) → OnOk r (Adds L f L g R)
 then_both (Ok x) L f f1 g P Q R is_layout before same added = adds_like L f L g (λ values. P values × Q values) R is_layout (adds_both L f f1 L g P Q is_layout before added) same
 then_both (Err e) L f f1 g P Q R is_layout before same added = tt

@@ -77,7 +77,7 @@ raised_step from by step = record { value = step.value; worth = raised from by s
 
 -- A term is another with what it is worth raised from a number on.
 pub record IsRaised (from by : ℤ) (term high : Term) : Type 0 where
-  pub var : high.var ≡ term.var
+  pub source : high.source ≡ term.source
   pub rising : high.rising ≡ term.rising
   pub steps : high.steps.items ≡ map (raised_step from by) term.steps.items
   pub bounds : HoldsSteps high.bounds high.steps.items

@@ -1,4 +1,4 @@
--- How terms of a sum give way to new variables.
+-- How terms of a sum give way to new ones.
 use Rattle.std.specs.Prelude.{◌≡◌, IsTrue, List, length, take}
 use Rattle.std.specs.List.{All}
 use Rattle.cnf_core.specs.Formula.{Cnf}
@@ -16,5 +16,5 @@ pub record GiveWay (c : Comparison) (layout : List VariableLiterals) (f : Cnf) (
   pub from_new : IsTrue g.from_new
   pub is_layout : IsLayoutOf later g
   pub earlier : take (length layout) later ≡ layout
-  pub of_layout : All (IsTermOf later) others
+  pub of_layout : All (IsTermOf later g) others
   pub leads : (last : List VariableLiterals) (h : Cnf) → Adds later g last h (Compares c others) → Adds layout f last h (Compares c terms)

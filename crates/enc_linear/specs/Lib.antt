@@ -1,4 +1,6 @@
 pub mod Bounds
 pub mod Folding
 pub mod Guards
+pub mod Ladders
+pub mod Sources
 pub mod Terms

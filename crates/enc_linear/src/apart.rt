@@ -1,29 +1,20 @@
 //! Sums of at most three terms that aren't a number, as clauses.
 
 ghost use Rattle.std.specs.Prelude.{◌≢◌, ◌+ℤ◌, ◌<◌, pos, length, IsTrue, OnOk};
-ghost use Rattle.std.specs.List.{All, Contains};
+ghost use Rattle.std.specs.List.{All};
 ghost use Rattle.enc_atoms.specs.Atoms.{Adds};
 ghost use Rattle.enc_linear.specs.Guards.{Unless};
-ghost use Rattle.enc_linear.specs.Terms.{HasOrderedSteps, IsTermOf, SaysOfTerm, worth_of};
+ghost use Rattle.enc_linear.specs.Terms.{IsTermOf, worth_of};
 ghost use Rattle.enc_var.specs.Layouts.{IsLayoutOf};
 
 use crate::bounds::{added, is_over, is_under};
-use crate::guards::{add_guarded, with_atom};
-use crate::terms::{Step, Term, step_worth};
+use crate::sources::unless_other;
+use crate::terms::{Term, step_worth};
 use cnf_core::Formula;
 use enc_atoms::{Atom, add_clause};
 use enc_var::Layout;
 use ep_base::Memory;
 use std::alloc::Global;
-
-/// "It isn't worth what it is at this step."
-fn other_than(term: &Term, step: Step) -> Atom
-    requires ordered { HasOrderedSteps term.now }
-    requires step { Contains term.now.steps.items step }
-    ensures { SaysOfTerm term.now result (λ worth. worth ≢ step.worth) }
-{
-    Atom::is_not(term.var, step.value)
-}
 
 /// Adds that 0 isn't the number, unless a guard holds.
 pub(crate) fn add_none_apart(
@@ -60,15 +51,15 @@ pub(crate) fn add_one_apart(
     requires from_new { IsTrue f.old.from_new }
     requires is_layout { IsLayoutOf layout.now f.old }
     requires guards { All (λ atom. atom.var < length layout.now) guards.now }
-    requires term { IsTermOf layout.now term.now }
+    requires term { IsTermOf layout.now f.old term.now }
     ensures { OnOk result (Adds layout.now f.old layout.now f.new
         (Unless guards.now (λ values. worth_of values term.now ≢ number))) }
 {
     let Some(step) = step_worth(term, number) else {
         return Ok(());
     };
-    let other = other_than(term, step);
-    add_guarded(alloc, layout, f, guards, other)
+    let atoms = unless_other(alloc, guards, term.source, step.value)?;
+    add_clause(alloc, layout, f, &atoms)
 }
 
 /// Adds that the sum of two terms isn't the number, unless a guard holds: a clause for each step of the first that the
@@ -85,8 +76,8 @@ pub(crate) fn add_two_apart(
     requires from_new { IsTrue f.old.from_new }
     requires is_layout { IsLayoutOf layout.now f.old }
     requires guards { All (λ atom. atom.var < length layout.now) guards.now }
-    requires first { IsTermOf layout.now first.now }
-    requires second { IsTermOf layout.now second.now }
+    requires first { IsTermOf layout.now f.old first.now }
+    requires second { IsTermOf layout.now f.old second.now }
     ensures { OnOk result (Adds layout.now f.old layout.now f.new
         (Unless guards.now (λ values. (worth_of values first.now +ℤ worth_of values second.now) ≢ number))) }
 {
@@ -98,8 +89,7 @@ pub(crate) fn add_two_apart(
         if is_over(left, second.bounds) {
             continue;
         }
-        let other = other_than(first, *step);
-        let atoms = with_atom(alloc, guards, other)?;
+        let atoms = unless_other(alloc, guards, first.source, step.value)?;
         add_one_apart(alloc, layout, f, &atoms, second, left)?;
     }
     Ok(())
@@ -120,9 +110,9 @@ pub(crate) fn add_three_apart(
     requires from_new { IsTrue f.old.from_new }
     requires is_layout { IsLayoutOf layout.now f.old }
     requires guards { All (λ atom. atom.var < length layout.now) guards.now }
-    requires first { IsTermOf layout.now first.now }
-    requires second { IsTermOf layout.now second.now }
-    requires third { IsTermOf layout.now third.now }
+    requires first { IsTermOf layout.now f.old first.now }
+    requires second { IsTermOf layout.now f.old second.now }
+    requires third { IsTermOf layout.now f.old third.now }
     ensures { OnOk result (Adds layout.now f.old layout.now f.new
         (Unless guards.now (λ values. (worth_of values first.now +ℤ (worth_of values second.now +ℤ worth_of values third.now)) ≢ number))) }
 {
@@ -135,8 +125,7 @@ pub(crate) fn add_three_apart(
         if is_over(left, rest) {
             continue;
         }
-        let other = other_than(first, *step);
-        let atoms = with_atom(alloc, guards, other)?;
+        let atoms = unless_other(alloc, guards, first.source, step.value)?;
         add_two_apart(alloc, layout, f, &atoms, second, third, left)?;
     }
     Ok(())

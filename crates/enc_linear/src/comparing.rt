@@ -29,7 +29,7 @@ fn add_at_most(
     requires from_new { IsTrue f.old.from_new }
     requires is_layout { IsLayoutOf layout.now f.old }
     requires guards { All (λ atom. atom.var < length layout.now) guards.now }
-    requires terms { All (IsTermOf layout.now) terms.now }
+    requires terms { All (IsTermOf layout.now f.old) terms.now }
     ensures { OnOk result (Adds layout.now f.old layout.now f.new
         (Unless guards.now (λ values. total values terms.now ≤ℤ most))) }
 {
@@ -54,7 +54,7 @@ fn add_other(
     requires from_new { IsTrue f.old.from_new }
     requires is_layout { IsLayoutOf layout.now f.old }
     requires guards { All (λ atom. atom.var < length layout.now) guards.now }
-    requires terms { All (IsTermOf layout.now) terms.now }
+    requires terms { All (IsTermOf layout.now f.old) terms.now }
     ensures { OnOk result (Adds layout.now f.old layout.now f.new
         (Unless guards.now (λ values. total values terms.now ≢ number))) }
 {
@@ -80,8 +80,8 @@ fn add_equal(
     requires from_new { IsTrue f.old.from_new }
     requires is_layout { IsLayoutOf layout.now f.old }
     requires guards { All (λ atom. atom.var < length layout.now) guards.now }
-    requires terms { All (IsTermOf layout.now) terms.now }
-    requires mirrors { All (IsTermOf layout.now) mirrors.now }
+    requires terms { All (IsTermOf layout.now f.old) terms.now }
+    requires mirrors { All (IsTermOf layout.now f.old) mirrors.now }
     requires opposite { (values : List ℤ) → total values mirrors.now ≡ neg_ℤ (total values terms.now) }
     ensures { OnOk result (Adds layout.now f.old layout.now f.new
         (Unless guards.now (λ values. IsTrue (compare_holds CompareOp.Equal (total values terms.now) number)))) }
@@ -105,8 +105,8 @@ pub(crate) fn add_compared(
     requires from_new { IsTrue f.old.from_new }
     requires is_layout { IsLayoutOf layout.now f.old }
     requires guards { All (λ atom. atom.var < length layout.now) guards.now }
-    requires terms { All (IsTermOf layout.now) terms.now }
-    requires mirrors { All (IsTermOf layout.now) mirrors.now }
+    requires terms { All (IsTermOf layout.now f.old) terms.now }
+    requires mirrors { All (IsTermOf layout.now f.old) mirrors.now }
     requires opposite { (values : List ℤ) → total values mirrors.now ≡ neg_ℤ (total values terms.now) }
     ensures { OnOk result (Adds layout.now f.old layout.now f.new
         (Unless guards.now (λ values. IsTrue (compare_holds op (total values terms.now) number)))) }

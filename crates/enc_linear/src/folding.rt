@@ -63,9 +63,9 @@ fn join(
     requires from_new { IsTrue f.old.from_new }
     requires is_layout { IsLayoutOf layout.old f.old }
     requires truth { MatchOption c.truth (length layout.old ≡ length layout.old) (λ t. t < length layout.old) }
-    requires first { IsTermOf layout.old first.now }
-    requires second { IsTermOf layout.old second.now }
-    requires terms { All (IsTermOf layout.old) sum.old.terms.items }
+    requires first { IsTermOf layout.old f.old first.now }
+    requires second { IsTermOf layout.old f.old second.now }
+    requires terms { All (IsTermOf layout.old f.old) sum.old.terms.items }
     requires bounds { HasBounds sum.old.bounds (first.now ∷ second.now ∷ sum.old.terms.items) }
     ensures terms { OnOk result (sum.new.terms.items ≡ sum.old.terms.items) }
     ensures bounds { IfOk result (λ whole. HasBounds sum.new.bounds (whole ∷ sum.old.terms.items)) }
@@ -90,7 +90,7 @@ fn join_front(
     requires from_new { IsTrue f.old.from_new }
     requires is_layout { IsLayoutOf layout.old f.old }
     requires truth { MatchOption c.truth (length layout.old ≡ length layout.old) (λ t. t < length layout.old) }
-    requires terms { All (IsTermOf layout.old) sum.old.terms.items }
+    requires terms { All (IsTermOf layout.old f.old) sum.old.terms.items }
     requires bounds { HasBounds sum.old.bounds sum.old.terms.items }
     ensures length { OnOk result (length sum.new.terms.items + 1 ≡ length sum.old.terms.items) }
     ensures bounds { OnOk result (HasBounds sum.new.bounds sum.new.terms.items) }
@@ -119,7 +119,7 @@ fn join_back(
     requires from_new { IsTrue f.old.from_new }
     requires is_layout { IsLayoutOf layout.old f.old }
     requires truth { MatchOption c.truth (length layout.old ≡ length layout.old) (λ t. t < length layout.old) }
-    requires terms { All (IsTermOf layout.old) sum.old.terms.items }
+    requires terms { All (IsTermOf layout.old f.old) sum.old.terms.items }
     requires bounds { HasBounds sum.old.bounds sum.old.terms.items }
     ensures length { OnOk result (length sum.new.terms.items + 1 ≡ length sum.old.terms.items) }
     ensures bounds { OnOk result (HasBounds sum.new.bounds sum.new.terms.items) }
@@ -182,7 +182,7 @@ fn join_alike(
     requires from_new { IsTrue f.old.from_new }
     requires is_layout { IsLayoutOf layout.old f.old }
     requires truth { MatchOption c.truth (length layout.old ≡ length layout.old) (λ t. t < length layout.old) }
-    requires terms { All (IsTermOf layout.old) sum.old.terms.items }
+    requires terms { All (IsTermOf layout.old f.old) sum.old.terms.items }
     requires bounds { HasBounds sum.old.bounds sum.old.terms.items }
     ensures length { OnOk result (length sum.new.terms.items ≤ length sum.old.terms.items) }
     ensures bounds { OnOk result (HasBounds sum.new.bounds sum.new.terms.items) }
@@ -219,7 +219,7 @@ fn group_round(
     requires from_new { IsTrue f.old.from_new }
     requires is_layout { IsLayoutOf layout.old f.old }
     requires truth { MatchOption c.truth (length layout.old ≡ length layout.old) (λ t. t < length layout.old) }
-    requires terms { All (IsTermOf layout.old) sum.old.terms.items }
+    requires terms { All (IsTermOf layout.old f.old) sum.old.terms.items }
     requires bounds { HasBounds sum.old.bounds sum.old.terms.items }
     ensures length { OnOk result (length sum.new.terms.items ≤ length sum.old.terms.items) }
     ensures bounds { OnOk result (HasBounds sum.new.bounds sum.new.terms.items) }
@@ -244,7 +244,7 @@ fn group(
     requires from_new { IsTrue f.old.from_new }
     requires is_layout { IsLayoutOf layout.old f.old }
     requires truth { MatchOption c.truth (length layout.old ≡ length layout.old) (λ t. t < length layout.old) }
-    requires terms { All (IsTermOf layout.old) sum.old.terms.items }
+    requires terms { All (IsTermOf layout.old f.old) sum.old.terms.items }
     requires bounds { HasBounds sum.old.bounds sum.old.terms.items }
     ensures bounds { OnOk result (HasBounds sum.new.bounds sum.new.terms.items) }
     ensures gives_way { OnOk result
@@ -269,7 +269,7 @@ fn join_end(
     requires from_new { IsTrue f.old.from_new }
     requires is_layout { IsLayoutOf layout.old f.old }
     requires truth { MatchOption c.truth (length layout.old ≡ length layout.old) (λ t. t < length layout.old) }
-    requires terms { All (IsTermOf layout.old) sum.old.terms.items }
+    requires terms { All (IsTermOf layout.old f.old) sum.old.terms.items }
     requires bounds { HasBounds sum.old.bounds sum.old.terms.items }
     ensures length { OnOk result (length sum.new.terms.items + 1 ≡ length sum.old.terms.items) }
     ensures bounds { OnOk result (HasBounds sum.new.bounds sum.new.terms.items) }
@@ -294,7 +294,7 @@ fn fold(
     requires from_new { IsTrue f.old.from_new }
     requires is_layout { IsLayoutOf layout.old f.old }
     requires truth { MatchOption c.truth (length layout.old ≡ length layout.old) (λ t. t < length layout.old) }
-    requires terms { All (IsTermOf layout.old) sum.old.terms.items }
+    requires terms { All (IsTermOf layout.old f.old) sum.old.terms.items }
     requires bounds { HasBounds sum.old.bounds sum.old.terms.items }
     ensures { OnOk result
         (GiveWay c layout.old f.old sum.old.terms.items layout.new f.new sum.new.terms.items) }
@@ -316,7 +316,7 @@ fn folded(
     requires from_new { IsTrue f.old.from_new }
     requires is_layout { IsLayoutOf layout.old f.old }
     requires truth { MatchOption c.truth (length layout.old ≡ length layout.old) (λ t. t < length layout.old) }
-    requires terms { All (IsTermOf layout.old) terms.items }
+    requires terms { All (IsTermOf layout.old f.old) terms.items }
     ensures { IfOk result (λ few. GiveWay c layout.old f.old terms.items layout.new f.new few.items) }
 {
     let bounds = bounds_of_sum(&terms)?;

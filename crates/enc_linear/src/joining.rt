@@ -1,4 +1,4 @@
-//! Two terms of a sum give way to a new variable that stands for what they come to.
+//! Two terms of a sum give way to a new one that stands for what they come to.
 
 ghost use Rattle.std.specs.Prelude.{◌≡◌, ◌<◌, ◌+ℤ◌, ◌≤ℤ◌, ◌∷◌, pos, ℤ, List, length, true, IfOk, IsTrue, MatchOption, OnOk};
 ghost use Rattle.std.specs.List.{All, Any};
@@ -12,7 +12,8 @@ ghost use Rattle.ep_base.specs.Runs.{IsIn};
 
 use crate::bounds::{Bounds, Clip, added, clip_for, clipped, opposite_clip};
 use crate::comparison::{Comparison, needs_no_greater, needs_no_less};
-use crate::making::{Raise, mirrored, multiple, raised};
+use crate::new_terms::any_of;
+use crate::making::{Raise, mirrored, raised};
 use crate::sums::add_three;
 use crate::terms::{Step, Term};
 use cnf_core::Formula;
@@ -63,9 +64,9 @@ fn add_at_most_none(
 ) -> Result<(), Memory>
     requires from_new { IsTrue f.old.from_new }
     requires is_layout { IsLayoutOf layout.now f.old }
-    requires first { IsTermOf layout.now first.now }
-    requires second { IsTermOf layout.now second.now }
-    requires third { IsTermOf layout.now third.now }
+    requires first { IsTermOf layout.now f.old first.now }
+    requires second { IsTermOf layout.now f.old second.now }
+    requires third { IsTermOf layout.now f.old third.now }
     ensures { OnOk result (Adds layout.now f.old layout.now f.new
         (λ values. (worth_of values first.now +ℤ (worth_of values second.now +ℤ worth_of values third.now)) ≤ℤ pos 0)) }
 {
@@ -106,9 +107,9 @@ fn add_reach(
 ) -> Result<(), Memory>
     requires from_new { IsTrue f.old.from_new }
     requires is_layout { IsLayoutOf layout.now f.old }
-    requires first { IsTermOf layout.now first.now }
-    requires second { IsTermOf layout.now second.now }
-    requires sum { IsTermOf layout.now sum.now }
+    requires first { IsTermOf layout.now f.old first.now }
+    requires second { IsTermOf layout.now f.old second.now }
+    requires sum { IsTermOf layout.now f.old sum.now }
     ensures { OnOk result (Adds layout.now f.old layout.now f.new (Reaches clip.high first.now second.now sum.now)) }
 {
     let raise = raise_to(first, second, clip.high)?;
@@ -129,9 +130,9 @@ fn add_stay(
 ) -> Result<(), Memory>
     requires from_new { IsTrue f.old.from_new }
     requires is_layout { IsLayoutOf layout.now f.old }
-    requires first { IsTermOf layout.now first.now }
-    requires second { IsTermOf layout.now second.now }
-    requires sum { IsTermOf layout.now sum.now }
+    requires first { IsTermOf layout.now f.old first.now }
+    requires second { IsTermOf layout.now f.old second.now }
+    requires sum { IsTermOf layout.now f.old sum.now }
     ensures { OnOk result (Adds layout.now f.old layout.now f.new (StaysWithin clip.low first.now second.now sum.now)) }
 {
     let one = mirrored(alloc, first)?;
@@ -154,9 +155,9 @@ fn add_no_less(
 ) -> Result<(), Memory>
     requires from_new { IsTrue f.old.from_new }
     requires is_layout { IsLayoutOf layout.now f.old }
-    requires first { IsTermOf layout.now first.now }
-    requires second { IsTermOf layout.now second.now }
-    requires sum { IsTermOf layout.now sum.now }
+    requires first { IsTermOf layout.now f.old first.now }
+    requires second { IsTermOf layout.now f.old second.now }
+    requires sum { IsTermOf layout.now f.old sum.now }
     ensures { OnOk result (Adds layout.now f.old layout.now f.new
         (λ values. needs_no_less c ≡ true → Reaches clip.high first.now second.now sum.now values)) }
 {
@@ -179,9 +180,9 @@ fn add_no_greater(
 ) -> Result<(), Memory>
     requires from_new { IsTrue f.old.from_new }
     requires is_layout { IsLayoutOf layout.now f.old }
-    requires first { IsTermOf layout.now first.now }
-    requires second { IsTermOf layout.now second.now }
-    requires sum { IsTermOf layout.now sum.now }
+    requires first { IsTermOf layout.now f.old first.now }
+    requires second { IsTermOf layout.now f.old second.now }
+    requires sum { IsTermOf layout.now f.old sum.now }
     ensures { OnOk result (Adds layout.now f.old layout.now f.new
         (λ values. needs_no_greater c ≡ true → StaysWithin clip.low first.now second.now sum.now values)) }
 {
@@ -204,9 +205,9 @@ fn add_tie(
 ) -> Result<(), Memory>
     requires from_new { IsTrue f.old.from_new }
     requires is_layout { IsLayoutOf layout.now f.old }
-    requires first { IsTermOf layout.now first.now }
-    requires second { IsTermOf layout.now second.now }
-    requires sum { IsTermOf layout.now sum.now }
+    requires first { IsTermOf layout.now f.old first.now }
+    requires second { IsTermOf layout.now f.old second.now }
+    requires sum { IsTermOf layout.now f.old sum.now }
     ensures { OnOk result (Adds layout.now f.old layout.now f.new
         (StandsForSum c clip.low clip.high first.now second.now sum.now)) }
 {
@@ -214,9 +215,9 @@ fn add_tie(
     add_no_greater(alloc, layout, f, first, second, sum, clip, c)
 }
 
-/// The term of a new variable that stands for the sum of two terms of a sum, if its other terms lie within bounds.
+/// A new term that stands for the sum of two terms of a sum, if its other terms lie within bounds.
 ///
-/// Costs a clause for each pair of steps of the two terms, or of one and the new variable, if that has fewer.
+/// Costs a clause for each pair of steps of the two terms, or of one and the new term, if that has fewer.
 pub(crate) fn joined(
     alloc: Global,
     layout: &mut Layout,
@@ -229,15 +230,14 @@ pub(crate) fn joined(
     requires from_new { IsTrue f.old.from_new }
     requires is_layout { IsLayoutOf layout.old f.old }
     requires truth { MatchOption c.truth (length layout.old ≡ length layout.old) (λ t. t < length layout.old) }
-    requires first { IsTermOf layout.old first.now }
-    requires second { IsTermOf layout.old second.now }
-    ensures { IfOk result (λ sum. (others : List Term) → All (IsTermOf layout.old) others → HasBounds rest others
+    requires first { IsTermOf layout.old f.old first.now }
+    requires second { IsTermOf layout.old f.old second.now }
+    ensures { IfOk result (λ sum. (others : List Term) → All (IsTermOf layout.old f.old) others → HasBounds rest others
         → GiveWay c layout.old f.old (first.now ∷ second.now ∷ others) layout.new f.new (sum ∷ others)) }
 {
     let clip = clip_for(rest, c.number)?;
     let domain = sums_of(alloc, first, second, clip)?;
-    let var = layout.new_var(alloc, f, &domain)?;
-    let sum = multiple(alloc, layout, var, 1)?;
+    let sum = any_of(alloc, layout, f, &domain)?;
     add_tie(alloc, layout, f, first, second, &sum, clip, c)?;
     Ok(sum)
 }

@@ -12,6 +12,8 @@ mod joining;
 mod linear;
 mod making;
 mod member;
+mod new_terms;
+mod sources;
 mod sums;
 mod terms;
 

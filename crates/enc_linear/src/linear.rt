@@ -2,6 +2,7 @@
 
 ghost use Rattle.std.specs.Prelude.{◌≡◌, ◌≢◌, ◌<◌, ◌+ℤ◌, ◌*ℤ◌, pos, ℤ, List, length, map, IfOk, IsTrue, MatchOption, OnOk};
 ghost use Rattle.std.specs.List.{All, AllZip};
+ghost use Rattle.cnf_core.specs.Formula.{Cnf};
 ghost use Rattle.enc_atoms.specs.Atoms.{Adds, AreOfDomains};
 ghost use Rattle.enc_linear.specs.Terms.{IsMirror, IsTermOf, total};
 ghost use Rattle.enc_var.specs.Layouts.{IsLayoutOf};
@@ -29,8 +30,8 @@ fn push_multiple(
 ) -> Result<(), Memory>
     requires var { var < length layout.now }
     requires coefficient { coefficient ≢ pos 0 }
-    requires terms { All (IsTermOf layout.now) terms.old.items }
-    ensures of_layout { OnOk result (All (IsTermOf layout.now) terms.new.items) }
+    requires terms { (f : Cnf) → All (IsTermOf layout.now f) terms.old.items }
+    ensures of_layout { OnOk result ((f : Cnf) → All (IsTermOf layout.now f) terms.new.items) }
     ensures sum { OnOk result ((values : List ℤ) → AreOfDomains layout.now values
         → total values terms.new.items ≡ total values terms.old.items +ℤ (coefficient *ℤ number_at values var)) }
 {
@@ -48,8 +49,8 @@ fn add_part(
     var: u64,
 ) -> Result<(), Memory>
     requires var { var < length layout.now }
-    requires terms { All (IsTermOf layout.now) terms.old.items }
-    ensures of_layout { OnOk result (All (IsTermOf layout.now) terms.new.items) }
+    requires terms { (f : Cnf) → All (IsTermOf layout.now f) terms.old.items }
+    ensures of_layout { OnOk result ((f : Cnf) → All (IsTermOf layout.now f) terms.new.items) }
     ensures sum { OnOk result ((values : List ℤ) → AreOfDomains layout.now values
         → total values terms.new.items ≡ total values terms.old.items +ℤ (coefficient *ℤ number_at values var)) }
 {
@@ -69,7 +70,7 @@ pub(crate) fn terms_of(
     parts: &[(i64, u64)],
 ) -> Result<Vec<Term>, Memory>
     requires { All (λ part. part.1 < length layout.now) parts.now }
-    ensures of_layout { IfOk result (λ terms. All (IsTermOf layout.now) terms.items) }
+    ensures of_layout { IfOk result (λ terms. (f : Cnf) → All (IsTermOf layout.now f) terms.items) }
     ensures sum { IfOk result (λ terms. (values : List ℤ) → AreOfDomains layout.now values
         → total values terms.items ≡ weighted_sum (map (λ part. (part.0, number_at values part.1)) parts.now)) }
 {
@@ -106,7 +107,7 @@ pub(crate) fn add_said(
     requires from_new { IsTrue f.old.from_new }
     requires is_layout { IsLayoutOf layout.now f.old }
     requires truth { MatchOption truth (length layout.now ≡ length layout.now) (λ t. t < length layout.now) }
-    requires terms { All (IsTermOf layout.now) terms.now }
+    requires terms { All (IsTermOf layout.now f.old) terms.now }
     ensures { OnOk result (Adds layout.now f.old layout.now f.new
         (λ values. IsTrue (is_as_said values truth (compare_holds op (total values terms.now) number)))) }
 {

@@ -1,12 +1,14 @@
 //! How terms are made.
 
 ghost use Rattle.std.specs.Prelude.{◌≡◌, ◌≢◌, ◌<◌, ◌*ℤ◌, pos, ℤ, List, length, IfOk};
+ghost use Rattle.cnf_core.specs.Formula.{Cnf};
 ghost use Rattle.enc_atoms.specs.Atoms.{AreOfDomains};
 ghost use Rattle.enc_linear.specs.Bounds.{IsRaised, raised_step};
 ghost use Rattle.enc_linear.specs.Terms.{IsMirror, IsTermOf, mirrored_step, step_of, worth_of};
 ghost use Rattle.ep_flat.specs.Cons.{number_at};
 
 use crate::bounds::bounds_of;
+use crate::sources::Source;
 use crate::terms::{Step, Term};
 use enc_var::Layout;
 use ep_base::Memory;
@@ -43,7 +45,7 @@ pub(crate) fn multiple(
 ) -> Result<Term, Memory>
     requires var { var < length layout.now }
     requires coefficient { coefficient ≢ pos 0 }
-    ensures of_layout { IfOk result (λ term. IsTermOf layout.now term) }
+    ensures of_layout { IfOk result (λ term. (f : Cnf) → IsTermOf layout.now f term) }
     ensures worth { IfOk result (λ term. (values : List ℤ) → AreOfDomains layout.now values
         → worth_of values term ≡ coefficient *ℤ number_at values var) }
 {
@@ -55,17 +57,18 @@ pub(crate) fn multiple(
         let step = multiplied(coefficient, *value)?;
         steps.push(step)?;
     }
+    let source = Source::Variable(var);
     let rising = 0 < coefficient;
     let bounds = bounds_of(&steps);
     Ok(Term {
-        var,
+        source,
         rising,
         steps,
         bounds,
     })
 }
 
-/// The same variable, with each worth turned into its opposite.
+/// The same with each worth turned into its opposite.
 pub(crate) fn mirrored(alloc: Global, term: &Term) -> Result<Term, Memory>
     ensures { IfOk result (λ twin. IsMirror term.now twin) }
 {
@@ -74,11 +77,11 @@ pub(crate) fn mirrored(alloc: Global, term: &Term) -> Result<Term, Memory>
         let twin = opposite(*step)?;
         steps.push(twin)?;
     }
-    let var = term.var;
+    let source = term.source;
     let rising = !term.rising;
     let bounds = bounds_of(&steps);
     Ok(Term {
-        var,
+        source,
         rising,
         steps,
         bounds,
@@ -108,7 +111,7 @@ fn raised_step(raise: Raise, step: Step) -> Result<Step, Memory>
     })
 }
 
-/// The same variable, with what it is worth raised from a number on.
+/// The same with what it is worth raised from a number on.
 pub(crate) fn raised(alloc: Global, term: &Term, raise: Raise) -> Result<Term, Memory>
     ensures { IfOk result (λ high. IsRaised raise.from raise.by term.now high) }
 {
@@ -117,11 +120,11 @@ pub(crate) fn raised(alloc: Global, term: &Term, raise: Raise) -> Result<Term, M
         let high = raised_step(raise, *step)?;
         steps.push(high)?;
     }
-    let var = term.var;
+    let source = term.source;
     let rising = term.rising;
     let bounds = bounds_of(&steps);
     Ok(Term {
-        var,
+        source,
         rising,
         steps,
         bounds,

@@ -48,7 +48,7 @@ pub(crate) fn add_one(
     requires from_new { IsTrue f.old.from_new }
     requires is_layout { IsLayoutOf layout.now f.old }
     requires guards { All (λ atom. atom.var < length layout.now) guards.now }
-    requires term { IsTermOf layout.now term.now }
+    requires term { IsTermOf layout.now f.old term.now }
     ensures { OnOk result (Adds layout.now f.old layout.now f.new
         (Unless guards.now (λ values. worth_of values term.now ≤ℤ most))) }
 {
@@ -79,8 +79,8 @@ pub(crate) fn add_two(
     requires from_new { IsTrue f.old.from_new }
     requires is_layout { IsLayoutOf layout.now f.old }
     requires guards { All (λ atom. atom.var < length layout.now) guards.now }
-    requires first { IsTermOf layout.now first.now }
-    requires second { IsTermOf layout.now second.now }
+    requires first { IsTermOf layout.now f.old first.now }
+    requires second { IsTermOf layout.now f.old second.now }
     ensures { OnOk result (Adds layout.now f.old layout.now f.new
         (Unless guards.now (λ values. (worth_of values first.now +ℤ worth_of values second.now) ≤ℤ most))) }
 {
@@ -116,9 +116,9 @@ pub(crate) fn add_three(
     requires from_new { IsTrue f.old.from_new }
     requires is_layout { IsLayoutOf layout.now f.old }
     requires guards { All (λ atom. atom.var < length layout.now) guards.now }
-    requires first { IsTermOf layout.now first.now }
-    requires second { IsTermOf layout.now second.now }
-    requires third { IsTermOf layout.now third.now }
+    requires first { IsTermOf layout.now f.old first.now }
+    requires second { IsTermOf layout.now f.old second.now }
+    requires third { IsTermOf layout.now f.old third.now }
     ensures { OnOk result (Adds layout.now f.old layout.now f.new
         (Unless guards.now (λ values. (worth_of values first.now +ℤ (worth_of values second.now +ℤ worth_of values third.now)) ≤ℤ most))) }
 {

@@ -1,28 +1,28 @@
-//! Terms of sums: variables whose numbers are worth something.
+//! Terms of sums: what has a number that is worth something.
 
-ghost use Rattle.std.specs.Prelude.{◌≡◌, ◌≢◌, ◌↔◌, ◌≤◌, ◌<◌, ◌<ℤ◌, ◌≤ℤ◌, true, false, length, IfOk, IsTrue, MatchOption, MatchResult};
+ghost use Rattle.std.specs.Prelude.{◌≡◌, ◌≢◌, ◌≤◌, ◌<ℤ◌, ◌≤ℤ◌, true, false, length, IfOk, MatchOption};
 ghost use Rattle.std.specs.List.{All, AllPairs, AllWithin, Contains};
-ghost use Rattle.enc_atoms.specs.Atoms.{test_holds};
-ghost use Rattle.enc_linear.specs.Terms.{AreInOrder, HasOrderedSteps, SaysOfTerm};
+ghost use Rattle.enc_linear.specs.Terms.{AreInOrder, HasOrderedSteps, SaysOfSteps, SaysOfTerm};
 
 use crate::bounds::Bounds;
+use crate::sources::{Source, above, at_most};
 use enc_atoms::Atom;
 use ep_base::Memory;
 
-/// A number of a variable, and what the term is worth there.
+/// A number, and what the term is worth there.
 #[derive(Clone, Copy, Debug, PartialEq, Eq)]
 pub struct Step {
-    /// The variable's number.
+    /// The number.
     pub value: i64,
     /// What the term is worth.
     pub worth: i128,
 }
 
-/// A variable whose numbers are worth something: the greater, the more, or the greater, the less.
+/// What has a number that is worth something: the greater, the more, or the greater, the less.
 #[derive(Debug, Drop)]
 pub struct Term {
-    /// The variable.
-    pub var: u64,
+    /// What has the number.
+    pub source: Source,
     /// Whether greater numbers are worth more.
     pub rising: bool,
     /// The numbers in ascending order.
@@ -39,9 +39,9 @@ pub(crate) fn less_than(term: &Term, step: Step) -> Result<Atom, Memory>
 {
     if term.rising {
         let below = step.value.checked_sub(1).ok_or(Memory)?;
-        return Ok(Atom::at_most(term.var, below));
+        return at_most(term.source, below);
     }
-    Ok(Atom::above(term.var, step.value))
+    above(term.source, step.value)
 }
 
 /// How many of some steps that are worth more and more are worth at most so much, by binary search.
@@ -65,24 +65,25 @@ fn count_above(steps: &[Step], most: i128) -> usize
 }
 
 /// "It is worth at most so much", for steps that are worth more and more; none where it never is.
-fn rising_up_to(var: u64, steps: &[Step], most: i128) -> Option<Atom>
+fn rising_up_to(source: Source, steps: &[Step], most: i128) -> Result<Option<Atom>, Memory>
     requires { AllPairs (AreInOrder true) steps.now }
-    ensures { MatchOption result (All (λ step. most <ℤ step.worth) steps.now) (λ atom. (atom.var ≡ var)
-        × All (λ step. IsTrue (test_holds atom.test atom.value step.value) ↔ (step.worth ≤ℤ most)) steps.now) }
+    ensures { IfOk result (λ found. MatchOption found (All (λ step. most <ℤ step.worth) steps.now)
+        (λ atom. SaysOfSteps source steps.now atom (λ worth. worth ≤ℤ most))) }
 {
     let count = count_up_to(steps, most);
     if count == 0 {
-        return None;
+        return Ok(None);
     }
     let last = steps[count - 1];
-    Some(Atom::at_most(var, last.value))
+    let within = at_most(source, last.value)?;
+    Ok(Some(within))
 }
 
 /// "It is worth at most so much", for steps that are worth less and less; none where it never is.
-fn falling_up_to(var: u64, steps: &[Step], most: i128) -> Result<Option<Atom>, Memory>
+fn falling_up_to(source: Source, steps: &[Step], most: i128) -> Result<Option<Atom>, Memory>
     requires { AllPairs (AreInOrder false) steps.now }
-    ensures { IfOk result (λ found. MatchOption found (All (λ step. most <ℤ step.worth) steps.now) (λ atom. (atom.var ≡ var)
-        × All (λ step. IsTrue (test_holds atom.test atom.value step.value) ↔ (step.worth ≤ℤ most)) steps.now)) }
+    ensures { IfOk result (λ found. MatchOption found (All (λ step. most <ℤ step.worth) steps.now)
+        (λ atom. SaysOfSteps source steps.now atom (λ worth. worth ≤ℤ most))) }
 {
     let count = count_above(steps, most);
     if count == steps.len() {
@@ -90,7 +91,8 @@ fn falling_up_to(var: u64, steps: &[Step], most: i128) -> Result<Option<Atom>, M
     }
     let first = steps[count];
     let below = first.value.checked_sub(1).ok_or(Memory)?;
-    Ok(Some(Atom::above(var, below)))
+    let beyond = above(source, below)?;
+    Ok(Some(beyond))
 }
 
 /// "It is worth at most so much"; none where it never is.
@@ -100,9 +102,9 @@ pub(crate) fn up_to(term: &Term, most: i128) -> Result<Option<Atom>, Memory>
         (λ atom. SaysOfTerm term.now atom (λ worth. worth ≤ℤ most))) }
 {
     if term.rising {
-        return Ok(rising_up_to(term.var, &term.steps, most));
+        return rising_up_to(term.source, &term.steps, most);
     }
-    falling_up_to(term.var, &term.steps, most)
+    falling_up_to(term.source, &term.steps, most)
 }
 
 /// The step of some that are worth more and more which is worth so much, by binary search.

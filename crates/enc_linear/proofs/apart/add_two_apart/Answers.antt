@@ -1,14 +1,15 @@
-use Rattle.std.proofs.Common.{◌≡◌, List, ◌+ℤ◌, ◌≢◌, ◌<◌, ◌∙◌, sym, ap, subst, length, get_or, pos, arith, rules, to_z, of_z}
+use Rattle.std.proofs.Common.{◌≡◌, List, ◌+ℤ◌, ◌≢◌, ◌<◌, ◌∙◌, sym, ap, subst, length, get_or, pos, arith, rules, to_z, of_z, w64}
 use Rattle.std.specs.Int.{w128}
 use Rattle.std.proofs.lemmas.Int.{ints, to_z-of_z}
-use Rattle.std.proofs.lemmas.List.Elements.{Contains-get_or}
-use Rattle.std.specs.List.{Contains}
+use Rattle.std.specs.List.{All}
 use Rattle.enc_linear.specs.declared.terms.Step.{Step}
 use Rattle.enc_linear.specs.Guards.{Unless}
 use Rattle.enc_linear.specs.Terms.{worth_of}
 use Rattle.enc_linear.proofs.Clipping.{worth_within}
 use Rattle.enc_linear.proofs.Ladders.{gives}
-use Rattle.enc_linear.proofs.Saying.{names_more}
+use Rattle.enc_linear.proofs.Arising.{term_later}
+use Rattle.enc_linear.specs.Sources.{AreGuardsOrOther}
+use Rattle.enc_atoms.specs.declared.atoms.Atom.{Atom}
 use Rattle.enc_linear.proofs.Parting.{Parted, parted_all, parted_passed, parted_turn}
 use Rattle.enc_linear.proofs.Turns.{all_turns, begun}
 use Rattle.enc_linear.proofs.apart.add_two_apart.Goals as goal
@@ -28,7 +29,7 @@ loop-step-preserved-then-is_under c =
     let g = gives _ _ _ c.in_ok-left.left c.checked_sub.ensures c.in_ok-left.ensures.ok_part in
     let l : to_z w128 (of_z w128 c.in_ok-left.left) ≡ c.in_ok-left.left = to_z-of_z w128 c.in_ok-left.left (search rules) in
     parted_passed c.args.layout.now c.args.f.now c.loop-step.f c.args.guards.now c.args.first.now (λ vs. worth_of vs c.args.second.now) _ step d i c.requires.is_layout low (ap (λ (xs : List Step). get_or xs i d) c.deref-step-items.ensures.value) c.loop-step.invariant
-    (λ values among e. let b = worth_within c.args.layout.now c.args.second.now values c.requires.second among in omega (arith, ints, w, g, l, e, sym c.is_under.ensures ∙ c.if-is_under.true, b.0))
+    (λ values among e. let b = worth_within c.args.layout.now c.args.f.now c.args.second.now values c.requires.second among in omega (arith, ints, w, g, l, e, sym c.is_under.ensures ∙ c.if-is_under.true, b.0))
 
 pub loop-step-preserved-then-is_over : goal.loop-step-preserved-then-is_over
 loop-step-preserved-then-is_over c =
@@ -42,13 +43,7 @@ loop-step-preserved-then-is_over c =
     let g = gives _ _ _ c.in_ok-left.left c.checked_sub.ensures c.in_ok-left.ensures.ok_part in
     let l : to_z w128 (of_z w128 c.in_ok-left.left) ≡ c.in_ok-left.left = to_z-of_z w128 c.in_ok-left.left (search rules) in
     parted_passed c.args.layout.now c.args.f.now c.loop-step.f c.args.guards.now c.args.first.now (λ vs. worth_of vs c.args.second.now) _ step d i c.requires.is_layout low (ap (λ (xs : List Step). get_or xs i d) c.deref-step-items.ensures.value) c.loop-step.invariant
-    (λ values among e. let b = worth_within c.args.layout.now c.args.second.now values c.requires.second among in omega (arith, ints, w, g, l, e, sym c.is_over.ensures ∙ c.if-is_over.true, b.1))
-
-pub other_than-other-requires-clause-step : goal.other_than-other-requires-clause-step
-other_than-other-requires-clause-step c =
-    let d : Step = record { value = pos 0; worth = pos 0 } in
-    subst (λ (xs : List Step). Contains xs (get_or c.deref-step-items.result.now c.loop-step.step-index d)) c.deref-step-items.ensures.value
-    (Contains-get_or c.deref-step-items.result.now c.loop-step.step-index d c.loop-step-test.true)
+    (λ values among e. let b = worth_within c.args.layout.now c.args.f.now c.args.second.now values c.requires.second among in omega (arith, ints, w, g, l, e, sym c.is_over.ensures ∙ c.if-is_over.true, b.1))
 
 pub add_one_apart-requires-clause-from_new : goal.add_one_apart-requires-clause-from_new
 add_one_apart-requires-clause-from_new c = c.loop-step.invariant.goes_on.from_new
@@ -58,7 +53,10 @@ add_one_apart-requires-clause-is_layout c = c.loop-step.invariant.goes_on.is_lay
 
 pub add_one_apart-requires-clause-guards : goal.add_one_apart-requires-clause-guards
 add_one_apart-requires-clause-guards c =
-    names_more (length c.args.layout.now) c.args.guards.now c.deref.result.now c.other_than-other.result c.requires.guards (omega (arith, c.other_than-other.ensures.var, c.requires.first.var)) (c.deref.ensures.value ∙ c.in_ok-atoms.ensures)
+    subst (All (λ (a : Atom). a.var < length c.args.layout.now)) (sym c.deref.ensures.value) (c.in_ok-atoms.ensures.names (length c.args.layout.now) c.requires.first.names c.requires.guards)
+
+pub add_one_apart-requires-clause-term : goal.add_one_apart-requires-clause-term
+add_one_apart-requires-clause-term c = term_later c.args.layout.now c.args.f.now c.args.layout.now c.loop-step.f c.args.second.now c.loop-step.invariant.goes_on c.requires.second
 
 pub loop-step-preserved : goal.loop-step-preserved
 loop-step-preserved c =
@@ -67,11 +65,12 @@ loop-step-preserved c =
     let i = c.loop-step.step-index in
     let step : Step = get_or items i d in
     let w : to_z w128 (of_z w128 step.worth) ≡ step.worth = to_z-of_z w128 step.worth (search rules) in
+    let v : to_z w64 (of_z w64 step.value) ≡ step.value = to_z-of_z w64 step.value (search rules) in
     let long : length items ≡ length c.args.first.now.steps.items = ap length c.deref-step-items.ensures.value in
     let low : i < length c.args.first.now.steps.items = omega (arith, long, c.loop-step-test.true) in
     let g = gives _ _ _ c.in_ok-left.left c.checked_sub.ensures c.in_ok-left.ensures.ok_part in
-    parted_turn c.args.layout.now c.args.f.now c.loop-step.f c.add_one_apart.new.f c.args.guards.now c.deref.result.now c.other_than-other.result c.args.first.now (λ vs. worth_of vs c.args.second.now) _ _ step d i
-    c.requires.is_layout c.requires.first low (ap (λ (xs : List Step). get_or xs i d) c.deref-step-items.ensures.value) c.other_than-other.ensures (c.deref.ensures.value ∙ c.in_ok-atoms.ensures)
+    parted_turn c.args.layout.now c.args.f.now c.loop-step.f c.add_one_apart.new.f c.args.guards.now c.deref.result.now _ c.args.first.now (λ vs. worth_of vs c.args.second.now) _ _ step d i
+    c.requires.is_layout c.requires.first low (ap (λ (xs : List Step). get_or xs i d) c.deref-step-items.ensures.value) (subst (AreGuardsOrOther c.args.first.now.source _ c.args.guards.now) (sym c.deref.ensures.value) c.in_ok-atoms.ensures) v
     c.loop-step.invariant c.in_ok-add_one_apart.ensures (omega (arith, ints, g, w))
 
 pub returns : goal.returns
@@ -80,4 +79,4 @@ returns c =
     all_turns c.args.layout.now c.args.f.now c.loop-step.f (Parted c.args.guards.now c.args.first.now (λ vs. worth_of vs c.args.second.now) _)
     (Unless c.args.guards.now (λ values. (worth_of values c.args.first.now +ℤ worth_of values c.args.second.now) ≢ c.args.number))
     c.args.first.now.steps.items c.loop-step.step-index c.requires.is_layout (omega (arith, long, c.loop-step-test.false)) c.loop-step.invariant
-    (λ values among. parted_all c.args.layout.now c.args.guards.now c.args.first.now (λ vs. worth_of vs c.args.second.now) _ c.args.number values c.requires.first among (omega (arith, ints)))
+    (λ values among. parted_all c.args.layout.now c.args.f.now c.args.guards.now c.args.first.now (λ vs. worth_of vs c.args.second.now) _ c.args.number values c.requires.first among (omega (arith, ints)))

@@ -3,8 +3,12 @@ use Rattle.std.proofs.lemmas.Int.{ints}
 use Rattle.ep_base.specs.declared.operators.CompareOp.{CompareOp}
 use Rattle.ep_base.specs.Numbers.{compare_holds}
 use Rattle.enc_linear.specs.Terms.{total}
+use Rattle.enc_linear.proofs.Arising.{terms_later}
 use Rattle.enc_linear.proofs.Totals.{both_compared, equal_is}
 use Rattle.enc_linear.proofs.comparing.add_equal.Goals as goal
+
+pub add_at_most-requires-2-clause-terms : goal.add_at_most-requires-2-clause-terms
+add_at_most-requires-2-clause-terms c = terms_later c.args.layout.now c.args.f.now c.args.layout.now c.add_at_most.new.f c.args.mirrors.now c.in_ok-add_at_most.ensures.goes_on c.requires.mirrors
 
 pub returns : goal.returns
 returns c =

@@ -7,6 +7,9 @@ use Rattle.enc_linear.proofs.Folds.{led}
 use Rattle.enc_linear.proofs.Totals.{linear_from}
 use Rattle.enc_linear.proofs.folding.add_linear.Goals as goal
 
+pub folded-requires-clause-terms : goal.folded-requires-clause-terms
+folded-requires-clause-terms c = c.in_ok-terms.ensures.of_layout c.args.f.now
+
 pub returns : goal.returns
 returns c =
     linear_from c.add_said.result c.args.layout.now c.args.f.now c.folded.new.layout c.add_said.new.f c.args.truth c.args.op (λ values. total values c.in_ok-terms.terms.items)

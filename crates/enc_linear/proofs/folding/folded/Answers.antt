@@ -10,7 +10,7 @@ use Rattle.enc_linear.proofs.folding.folded.Goals as goal
 
 pub group-requires-clause-terms : goal.group-requires-clause-terms
 group-requires-clause-terms c =
-    All-permutation (IsTermOf c.args.layout.now) c.args.terms.items c.in_ok-terms.terms.items (subst (λ (ts : List Term). IsPermutation ts c.in_ok-terms.terms.items) c.from_vec.ensures.items c.in_ok-terms.ensures) c.requires.terms
+    All-permutation (IsTermOf c.args.layout.now c.args.f.now) c.args.terms.items c.in_ok-terms.terms.items (subst (λ (ts : List Term). IsPermutation ts c.in_ok-terms.terms.items) c.from_vec.ensures.items c.in_ok-terms.ensures) c.requires.terms
 
 pub group-requires-clause-bounds : goal.group-requires-clause-bounds
 group-requires-clause-bounds c =
@@ -18,7 +18,7 @@ group-requires-clause-bounds c =
     (subst (HasBounds c.in_ok-bounds.bounds) c.deref.ensures.value c.in_ok-bounds.ensures)
 
 pub fold-requires-clause-terms : goal.fold-requires-clause-terms
-fold-requires-clause-terms c = All-permutation (IsTermOf c.group.new.layout) c.group.new.sum.terms.items c.in_ok-terms-2.terms.items c.in_ok-terms-2.ensures c.in_ok-group.ensures.gives_way.of_layout
+fold-requires-clause-terms c = All-permutation (IsTermOf c.group.new.layout c.group.new.f) c.group.new.sum.terms.items c.in_ok-terms-2.terms.items c.in_ok-terms-2.ensures c.in_ok-group.ensures.gives_way.of_layout
 
 pub fold-requires-clause-bounds : goal.fold-requires-clause-bounds
 fold-requires-clause-bounds c = bounds_permuted c.group.new.sum.bounds c.group.new.sum.terms.items c.in_ok-terms-2.terms.items c.in_ok-terms-2.ensures c.in_ok-group.ensures.bounds

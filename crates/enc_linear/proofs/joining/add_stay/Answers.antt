@@ -5,13 +5,13 @@ use Rattle.enc_linear.proofs.Turns.{relabelled}
 use Rattle.enc_linear.proofs.joining.add_stay.Goals as goal
 
 pub add_reach-requires-clause-first : goal.add_reach-requires-clause-first
-add_reach-requires-clause-first c = mirror_of c.args.layout.now c.args.first.now c.in_ok-one.one c.requires.first c.in_ok-one.ensures
+add_reach-requires-clause-first c = mirror_of c.args.layout.now c.args.f.now c.args.first.now c.in_ok-one.one c.requires.first c.in_ok-one.ensures
 
 pub add_reach-requires-clause-second : goal.add_reach-requires-clause-second
-add_reach-requires-clause-second c = mirror_of c.args.layout.now c.args.second.now c.in_ok-other.other c.requires.second c.in_ok-other.ensures
+add_reach-requires-clause-second c = mirror_of c.args.layout.now c.args.f.now c.args.second.now c.in_ok-other.other c.requires.second c.in_ok-other.ensures
 
 pub add_reach-requires-clause-sum : goal.add_reach-requires-clause-sum
-add_reach-requires-clause-sum c = mirror_of c.args.layout.now c.args.sum.now c.in_ok-both.both c.requires.sum c.in_ok-both.ensures
+add_reach-requires-clause-sum c = mirror_of c.args.layout.now c.args.f.now c.args.sum.now c.in_ok-both.both c.requires.sum c.in_ok-both.ensures
 
 pub returns : goal.returns
 returns c =

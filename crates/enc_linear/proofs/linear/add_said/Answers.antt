@@ -2,25 +2,33 @@ use Rattle.std.proofs.Common.{subst, sym, ap, ◌∙◌, arith}
 use Rattle.std.specs.List.{AllZip}
 use Rattle.std.proofs.lemmas.Int.{ints}
 use Rattle.enc_linear.specs.Terms.{IsMirror, total}
+use Rattle.enc_linear.proofs.Arising.{terms_later}
 use Rattle.enc_linear.proofs.Totals.{mirrors_of_layout, mirrors_opposite, said_one, said_two}
 use Rattle.enc_linear.proofs.linear.add_said.Goals as goal
 use Rattle.ep_base.proofs.Contraries.{contrary_holds}
 use Rattle.ep_base.specs.Numbers.{compare_holds}
 
 pub add_compared-requires-clause-mirrors : goal.add_compared-requires-clause-mirrors
-add_compared-requires-clause-mirrors c = mirrors_of_layout c.args.layout.now c.args.terms.now c.deref.result.now c.requires.terms (subst (AllZip IsMirror c.args.terms.now) (sym c.deref.ensures.value) c.in_ok-mirrors.ensures)
+add_compared-requires-clause-mirrors c = mirrors_of_layout c.args.layout.now c.args.f.now c.args.terms.now c.deref.result.now c.requires.terms (subst (AllZip IsMirror c.args.terms.now) (sym c.deref.ensures.value) c.in_ok-mirrors.ensures)
 
 pub add_compared-requires-clause-opposite : goal.add_compared-requires-clause-opposite
 add_compared-requires-clause-opposite c = mirrors_opposite c.args.terms.now c.deref.result.now (subst (AllZip IsMirror c.args.terms.now) (sym c.deref.ensures.value) c.in_ok-mirrors.ensures)
 
+pub add_compared-requires-2-clause-terms : goal.add_compared-requires-2-clause-terms
+add_compared-requires-2-clause-terms c = terms_later c.args.layout.now c.args.f.now c.args.layout.now c.add_truth.new.f c.args.terms.now c.in_ok-add_truth.ensures.goes_on c.requires.terms
+
 pub add_compared-requires-2-clause-mirrors : goal.add_compared-requires-2-clause-mirrors
-add_compared-requires-2-clause-mirrors c = mirrors_of_layout c.args.layout.now c.args.terms.now c.deref-2.result.now c.requires.terms (subst (AllZip IsMirror c.args.terms.now) (sym c.deref-2.ensures.value) c.in_ok-mirrors.ensures)
+add_compared-requires-2-clause-mirrors c = mirrors_of_layout c.args.layout.now c.add_truth.new.f c.args.terms.now c.deref-2.result.now (terms_later c.args.layout.now c.args.f.now c.args.layout.now c.add_truth.new.f c.args.terms.now c.in_ok-add_truth.ensures.goes_on c.requires.terms) (subst (AllZip IsMirror c.args.terms.now) (sym c.deref-2.ensures.value) c.in_ok-mirrors.ensures)
 
 pub add_compared-requires-2-clause-opposite : goal.add_compared-requires-2-clause-opposite
 add_compared-requires-2-clause-opposite c = mirrors_opposite c.args.terms.now c.deref-2.result.now (subst (AllZip IsMirror c.args.terms.now) (sym c.deref-2.ensures.value) c.in_ok-mirrors.ensures)
 
+pub add_compared-requires-3-clause-terms : goal.add_compared-requires-3-clause-terms
+add_compared-requires-3-clause-terms c =
+    terms_later c.args.layout.now c.add_truth.new.f c.args.layout.now c.add_compared-2.new.f c.args.terms.now c.in_ok-add_compared.ensures.goes_on (terms_later c.args.layout.now c.args.f.now c.args.layout.now c.add_truth.new.f c.args.terms.now c.in_ok-add_truth.ensures.goes_on c.requires.terms)
+
 pub add_compared-requires-3-clause-mirrors : goal.add_compared-requires-3-clause-mirrors
-add_compared-requires-3-clause-mirrors c = mirrors_of_layout c.args.layout.now c.args.terms.now c.deref-3.result.now c.requires.terms (subst (AllZip IsMirror c.args.terms.now) (sym c.deref-3.ensures.value) c.in_ok-mirrors.ensures)
+add_compared-requires-3-clause-mirrors c = mirrors_of_layout c.args.layout.now c.add_compared-2.new.f c.args.terms.now c.deref-3.result.now (terms_later c.args.layout.now c.add_truth.new.f c.args.layout.now c.add_compared-2.new.f c.args.terms.now c.in_ok-add_compared.ensures.goes_on (terms_later c.args.layout.now c.args.f.now c.args.layout.now c.add_truth.new.f c.args.terms.now c.in_ok-add_truth.ensures.goes_on c.requires.terms)) (subst (AllZip IsMirror c.args.terms.now) (sym c.deref-3.ensures.value) c.in_ok-mirrors.ensures)
 
 pub add_compared-requires-3-clause-opposite : goal.add_compared-requires-3-clause-opposite
 add_compared-requires-3-clause-opposite c = mirrors_opposite c.args.terms.now c.deref-3.result.now (subst (AllZip IsMirror c.args.terms.now) (sym c.deref-3.ensures.value) c.in_ok-mirrors.ensures)

@@ -8,7 +8,7 @@ use Rattle.enc_linear.proofs.linear.terms_of.Goals as goal
 
 pub loop-part-init : goal.loop-part-init
 loop-part-init c = record {
-  of_layout = subst (All (IsTermOf c.args.layout.now)) (sym c.new-terms.ensures.items) (All-nil (IsTermOf c.args.layout.now));
+  of_layout = λ f. subst (All (IsTermOf c.args.layout.now f)) (sym c.new-terms.ensures.items) (All-nil (IsTermOf c.args.layout.now f));
   sum = sums_none c.args.layout.now c.new-terms.result.items c.args.parts.now c.new-terms.ensures.items;
 }
 

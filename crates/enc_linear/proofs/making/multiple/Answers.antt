@@ -1,4 +1,4 @@
-use Rattle.std.proofs.Common.{◌≡◌, ℤ, ◌∙◌, pos, get_or, map, rules, ap, subst, sym, to_z, of_z, w64, arith, int_lt}
+use Rattle.std.proofs.Common.{◌≡◌, ℤ, ◌∙◌, refl, pos, get_or, map, rules, ap, subst, sym, to_z, of_z, w64, arith, int_lt}
 use Rattle.std.proofs.lemmas.Int.{ints, to_z-of_z}
 use Rattle.ep_base.specs.Runs.{IsAscending}
 use Rattle.enc_linear.specs.Terms.{HoldsSteps, step_of}
@@ -23,7 +23,7 @@ returns-clause-of_layout c =
     let a = c.args.coefficient in
     let e : to_z w64 (of_z w64 a) ≡ a = to_z-of_z w64 a c.ranges.coefficient in
     let items : xs ≡ c.domain-domain.result.now = c.deref-value-items.ensures.value ∙ c.in_ok-values.ensures in
-    multiple_of c.args.layout.now a xs _ c.requires.var (items ∙ c.domain-domain.ensures) (subst IsAscending (sym items) c.runs_ascend.ensures) c.requires.coefficient (ap (λ n. int_lt (pos 0) n) e)
+    multiple_of c.args.layout.now a xs c.args.var _ refl c.requires.var (items ∙ c.domain-domain.ensures) (subst IsAscending (sym items) c.runs_ascend.ensures) c.requires.coefficient (ap (λ n. int_lt (pos 0) n) e)
     (map_all (step_of _) xs c.loop-value.value-index c.loop-value.steps.items c.loop-value-test.false c.loop-value.invariant ∙ ap (λ n. map (step_of n) xs) e)
     (subst (HoldsSteps c.bounds_of-bounds.result) c.deref.ensures.value c.bounds_of-bounds.ensures)
 
@@ -33,5 +33,5 @@ returns-clause-worth c values among =
     let a = c.args.coefficient in
     let e : to_z w64 (of_z w64 a) ≡ a = to_z-of_z w64 a c.ranges.coefficient in
     let items : xs ≡ c.domain-domain.result.now = c.deref-value-items.ensures.value ∙ c.in_ok-values.ensures in
-    multiple_is c.args.layout.now a xs _ values c.requires.var (items ∙ c.domain-domain.ensures)
+    multiple_is c.args.layout.now a xs c.args.var _ values refl c.requires.var (items ∙ c.domain-domain.ensures)
     (map_all (step_of _) xs c.loop-value.value-index c.loop-value.steps.items c.loop-value-test.false c.loop-value.invariant ∙ ap (λ n. map (step_of n) xs) e) among

@@ -17,7 +17,7 @@ loop-step-preserved c =
 
 pub returns : goal.returns
 returns c = record {
-  var = refl;
+  source = refl;
   rising = refl;
   steps = map_all (raised_step c.args.raise.from c.args.raise.by) c.deref-step-items.result.now c.loop-step.step-index c.loop-step.steps.items c.loop-step-test.false c.loop-step.invariant ∙ ap (map (raised_step c.args.raise.from c.args.raise.by)) c.deref-step-items.ensures.value;
   bounds = subst (HoldsSteps c.bounds_of-bounds.result) c.deref.ensures.value c.bounds_of-bounds.ensures;

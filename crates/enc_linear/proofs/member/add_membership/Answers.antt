@@ -44,4 +44,4 @@ returns c =
     all_turns c.args.layout.now c.args.f.now c.loop-value.f (Passes c.args.guards.now c.args.var c.args.numbers.now c.args.inside) (Unless c.args.guards.now (IsMember c.args.var c.args.numbers.now c.args.inside))
     c.deref-value-items.result.now c.loop-value.value-index c.requires.is_layout c.loop-value-test.false c.loop-value.invariant
     (λ values among. passes_all c.args.guards.now c.args.var c.args.numbers.now c.args.inside values c.deref-value-items.result.now
-    (subst (λ xs. Contains xs (number_at values c.args.var)) (sym (items ∙ c.domain.ensures)) (number_among c.args.layout.now values c.args.var among c.requires.var)))
+    (subst (λ xs. Contains xs (number_at values c.args.var)) (sym (items ∙ c.domain.ensures)) (number_among c.args.layout.now values c.args.var among.among c.requires.var)))

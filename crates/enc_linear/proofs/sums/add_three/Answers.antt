@@ -6,6 +6,7 @@ use Rattle.std.specs.List.{Contains}
 use Rattle.enc_linear.specs.declared.terms.Step.{Step}
 use Rattle.enc_linear.specs.Guards.{Unless}
 use Rattle.enc_linear.specs.Terms.{worth_of}
+use Rattle.enc_linear.proofs.Arising.{term_later}
 use Rattle.enc_linear.proofs.Clipping.{worth_within}
 use Rattle.enc_linear.proofs.Ladders.{gives}
 use Rattle.enc_linear.proofs.Saying.{names_more}
@@ -41,7 +42,7 @@ loop-step-preserved-then-is_enough c =
     let g = gives _ _ _ c.in_ok-left.left c.checked_sub.ensures c.in_ok-left.ensures.ok_part in
     let l : to_z w128 (of_z w128 c.in_ok-left.left) ≡ c.in_ok-left.left = to_z-of_z w128 c.in_ok-left.left (search rules) in
     spread_enough c.args.layout.now c.args.f.now c.loop-step.f c.args.guards.now c.args.first.now (λ vs. worth_of vs c.args.second.now +ℤ worth_of vs c.args.third.now) _ _ c.in_ok-rest.rest.greatest step d i c.requires.is_layout low (ap (λ (xs : List Step). get_or xs i d) c.deref-step-items.ensures.value) c.loop-step.invariant
-    (λ values among. let a = worth_within c.args.layout.now c.args.second.now values c.requires.second among in let b = worth_within c.args.layout.now c.args.third.now values c.requires.third among in omega (arith, ints, a.1, b.1, c.in_ok-rest.ensures.least, c.in_ok-rest.ensures.greatest))
+    (λ values among. let a = worth_within c.args.layout.now c.args.f.now c.args.second.now values c.requires.second among in let b = worth_within c.args.layout.now c.args.f.now c.args.third.now values c.requires.third among in omega (arith, ints, a.1, b.1, c.in_ok-rest.ensures.least, c.in_ok-rest.ensures.greatest))
     (omega (arith, ints, w, g, l, sym c.is_enough.ensures ∙ c.if-is_enough.true))
 
 pub less_than-requires-clause-step : goal.less_than-requires-clause-step
@@ -58,7 +59,13 @@ add_two-requires-clause-is_layout c = c.loop-step.invariant.goes_on.is_layout
 
 pub add_two-requires-clause-guards : goal.add_two-requires-clause-guards
 add_two-requires-clause-guards c =
-    names_more (length c.args.layout.now) c.args.guards.now c.deref.result.now c.in_ok-less.less c.requires.guards (omega (arith, c.in_ok-less.ensures.var, c.requires.first.var)) (c.deref.ensures.value ∙ c.in_ok-atoms.ensures)
+    names_more (length c.args.layout.now) c.args.guards.now c.deref.result.now c.in_ok-less.less c.requires.guards (c.in_ok-less.ensures.names (length c.args.layout.now) c.requires.first.names) (c.deref.ensures.value ∙ c.in_ok-atoms.ensures)
+
+pub add_two-requires-clause-first : goal.add_two-requires-clause-first
+add_two-requires-clause-first c = term_later c.args.layout.now c.args.f.now c.args.layout.now c.loop-step.f c.args.second.now c.loop-step.invariant.goes_on c.requires.second
+
+pub add_two-requires-clause-second : goal.add_two-requires-clause-second
+add_two-requires-clause-second c = term_later c.args.layout.now c.args.f.now c.args.layout.now c.loop-step.f c.args.third.now c.loop-step.invariant.goes_on c.requires.third
 
 pub loop-step-preserved : goal.loop-step-preserved
 loop-step-preserved c =
@@ -81,6 +88,6 @@ returns c =
     all_turns_beside c.args.layout.now c.args.f.now c.loop-step.f (HasRoom c.args.guards.now c.args.first.now _) (Spread c.args.guards.now c.args.first.now (λ vs. worth_of vs c.args.second.now +ℤ worth_of vs c.args.third.now) _)
     (Unless c.args.guards.now (λ values. (worth_of values c.args.first.now +ℤ (worth_of values c.args.second.now +ℤ worth_of values c.args.third.now)) ≤ℤ c.args.most))
     c.args.first.now.steps.items c.loop-step.step-index c.requires.is_layout (omega (arith, long, c.loop-step-test.false)) c.loop-step.invariant
-    (λ values among. let a = worth_within c.args.layout.now c.args.second.now values c.requires.second among in let b = worth_within c.args.layout.now c.args.third.now values c.requires.third among in
-    spread_said c.args.layout.now c.args.guards.now c.args.first.now (λ vs. worth_of vs c.args.second.now +ℤ worth_of vs c.args.third.now) _ c.in_ok-rest.rest.least _ c.args.most values c.requires.first among (omega (arith, ints))
+    (λ values among. let a = worth_within c.args.layout.now c.args.f.now c.args.second.now values c.requires.second among in let b = worth_within c.args.layout.now c.args.f.now c.args.third.now values c.requires.third among in
+    spread_said c.args.layout.now c.args.f.now c.args.guards.now c.args.first.now (λ vs. worth_of vs c.args.second.now +ℤ worth_of vs c.args.third.now) _ c.in_ok-rest.rest.least _ c.args.most values c.requires.first among (omega (arith, ints))
     (omega (arith, ints, a.0, b.0, c.in_ok-rest.ensures.least, c.in_ok-rest.ensures.greatest)) (omega (arith, ints, room, c.in_ok-room.ensures)))

@@ -6,6 +6,7 @@ use Rattle.std.specs.List.{Contains}
 use Rattle.enc_linear.specs.declared.terms.Step.{Step}
 use Rattle.enc_linear.specs.Guards.{Unless}
 use Rattle.enc_linear.specs.Terms.{worth_of}
+use Rattle.enc_linear.proofs.Arising.{term_later}
 use Rattle.enc_linear.proofs.Clipping.{worth_within}
 use Rattle.enc_linear.proofs.Ladders.{gives}
 use Rattle.enc_linear.proofs.Saying.{names_more}
@@ -41,7 +42,7 @@ loop-step-preserved-then-is_enough c =
     let g = gives _ _ _ c.in_ok-left.left c.checked_sub.ensures c.in_ok-left.ensures.ok_part in
     let l : to_z w128 (of_z w128 c.in_ok-left.left) ≡ c.in_ok-left.left = to_z-of_z w128 c.in_ok-left.left (search rules) in
     spread_enough c.args.layout.now c.args.f.now c.loop-step.f c.args.guards.now c.args.first.now (λ vs. worth_of vs c.args.second.now) _ _ c.args.second.now.bounds.greatest step d i c.requires.is_layout low (ap (λ (xs : List Step). get_or xs i d) c.deref-step-items.ensures.value) c.loop-step.invariant
-    (λ values among. let b = worth_within c.args.layout.now c.args.second.now values c.requires.second among in omega (arith, ints, b.1))
+    (λ values among. let b = worth_within c.args.layout.now c.args.f.now c.args.second.now values c.requires.second among in omega (arith, ints, b.1))
     (omega (arith, ints, w, g, l, sym c.is_enough.ensures ∙ c.if-is_enough.true))
 
 pub less_than-requires-clause-step : goal.less_than-requires-clause-step
@@ -58,7 +59,10 @@ add_one-requires-in-loop-step-clause-is_layout c = c.loop-step.invariant.goes_on
 
 pub add_one-requires-in-loop-step-clause-guards : goal.add_one-requires-in-loop-step-clause-guards
 add_one-requires-in-loop-step-clause-guards c =
-    names_more (length c.args.layout.now) c.args.guards.now c.deref.result.now c.in_ok-less.less c.requires.guards (omega (arith, c.in_ok-less.ensures.var, c.requires.first.var)) (c.deref.ensures.value ∙ c.in_ok-atoms.ensures)
+    names_more (length c.args.layout.now) c.args.guards.now c.deref.result.now c.in_ok-less.less c.requires.guards (c.in_ok-less.ensures.names (length c.args.layout.now) c.requires.first.names) (c.deref.ensures.value ∙ c.in_ok-atoms.ensures)
+
+pub add_one-requires-in-loop-step-clause-term : goal.add_one-requires-in-loop-step-clause-term
+add_one-requires-in-loop-step-clause-term c = term_later c.args.layout.now c.args.f.now c.args.layout.now c.loop-step.f c.args.second.now c.loop-step.invariant.goes_on c.requires.second
 
 pub loop-step-preserved : goal.loop-step-preserved
 loop-step-preserved c =
@@ -81,6 +85,6 @@ returns c =
     all_turns_beside c.args.layout.now c.args.f.now c.loop-step.f (HasRoom c.args.guards.now c.args.first.now _) (Spread c.args.guards.now c.args.first.now (λ vs. worth_of vs c.args.second.now) _)
     (Unless c.args.guards.now (λ values. (worth_of values c.args.first.now +ℤ worth_of values c.args.second.now) ≤ℤ c.args.most))
     c.args.first.now.steps.items c.loop-step.step-index c.requires.is_layout (omega (arith, long, c.loop-step-test.false)) c.loop-step.invariant
-    (λ values among. let b = worth_within c.args.layout.now c.args.second.now values c.requires.second among in
-    spread_said c.args.layout.now c.args.guards.now c.args.first.now (λ vs. worth_of vs c.args.second.now) _ c.args.second.now.bounds.least _ c.args.most values c.requires.first among (omega (arith, ints))
+    (λ values among. let b = worth_within c.args.layout.now c.args.f.now c.args.second.now values c.requires.second among in
+    spread_said c.args.layout.now c.args.f.now c.args.guards.now c.args.first.now (λ vs. worth_of vs c.args.second.now) _ c.args.second.now.bounds.least _ c.args.most values c.requires.first among (omega (arith, ints))
     (omega (arith, ints, b.0)) (omega (arith, ints, room, c.in_ok-room.ensures)))

@@ -10,5 +10,5 @@ returns c =
     let n = c.count_up_to-count.result - 1 in
     let x : ℤ = (slice_index_or c.args.steps.now n d).value in
     let e : to_z w64 (of_z w64 x) ≡ x = to_z-of_z w64 x (search rules) in
-    up_rising c.args.steps.now c.count_up_to-count.result n c.args.most _ c.args.var d c.at_most.result c.requires c.count_up_to-count.ensures.bound (omega arith)
-    (within_same _ _ _ _ _ c.count_up_to-count.ensures.before (omega (arith, ints))) (above_same _ _ _ _ _ c.count_up_to-count.ensures.behind (omega (arith, ints))) c.at_most.ensures e
+    up_rising c.args.steps.now c.count_up_to-count.result n c.args.most _ c.args.source d c.in_ok-within.within c.requires c.count_up_to-count.ensures.bound (omega arith)
+    (within_same _ _ _ _ _ c.count_up_to-count.ensures.before (omega (arith, ints))) (above_same _ _ _ _ _ c.count_up_to-count.ensures.behind (omega (arith, ints))) c.in_ok-within.ensures e
