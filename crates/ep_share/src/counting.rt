@@ -6,17 +6,27 @@ use ep_base::Memory;
 use ep_ground::{Ground, Node, Term};
 use std::alloc::Global;
 
-/// The most places of a table of counts.
+/// The least and the most places of a table of counts.
+const LEAST_PLACES: usize = 1 << 12;
+
 const MOST_PLACES: usize = 1 << 24;
+
+/// How many places a table of counts has for each two parts that stand together.
+const PLACES_FOR_TWO: usize = 8;
+
+/// As how many more sums it counts that two parts are a term already.
+const MORE_WHERE_JOINED: u8 = 3;
 
 /// The most parts of a sum that is cut, as a number of rows and columns.
 const SIDE: usize = 8;
 
-/// How many sums two parts stand in together, counted by a number that is made of both. Other parts may have the same number, so
-/// a count may be too great.
+/// How many sums two parts stand in together, and which two are a term of their own already, by a number that is made of both.
+/// Other parts may have the same number, so a count may be too great.
 #[derive(Drop)]
 pub struct Counts {
     counts: Vec<u8>,
+    /// As long as the counts.
+    joined: Vec<bool>,
 }
 
 /// A word made of a coefficient.
@@ -42,6 +52,13 @@ fn place_of(length: usize, p: (i64, Term), q: (i64, Term)) -> usize {
     }
 }
 
+/// The parts at two places of a sum.
+fn two_of(parts: &[(i64, Term)], places: Places) -> Option<((i64, Term), (i64, Term))> {
+    let p = parts.get(places.first)?;
+    let q = parts.get(places.second)?;
+    Some((*p, *q))
+}
+
 impl Counts {
     /// How often two parts were counted.
     fn of(&self, p: (i64, Term), q: (i64, Term)) -> u8 {
@@ -58,6 +75,29 @@ impl Counts {
         let place = place_of(self.counts.len(), p, q);
         if place < self.counts.len() {
             self.counts[place] = self.counts[place].saturating_add(1);
+        }
+    }
+
+    /// Notes that the parts at two places of a sum are a term of their own.
+    pub fn note(&mut self, parts: &[(i64, Term)], places: Places) {
+        if let Some((p, q)) = two_of(parts, places) {
+            let place = place_of(self.joined.len(), p, q);
+            if place < self.joined.len() {
+                self.joined[place] = true;
+            }
+        }
+    }
+
+    /// As how many more sums it counts what the parts at two places of a sum are.
+    pub fn more(&self, parts: &[(i64, Term)], places: Places) -> u8 {
+        let Some((p, q)) = two_of(parts, places) else {
+            return 0;
+        };
+        let place = place_of(self.joined.len(), p, q);
+        if place < self.joined.len() && self.joined[place] {
+            MORE_WHERE_JOINED
+        } else {
+            0
         }
     }
 
@@ -91,13 +131,17 @@ fn places_for(g: &Ground) -> usize {
     for term in 0..g.arena.len() {
         places = places.saturating_add(pairs_in(g.arena.node(Term::new(term as u32))));
     }
-    places.saturating_mul(2).min(MOST_PLACES)
+    places
+        .saturating_mul(PLACES_FOR_TWO)
+        .clamp(LEAST_PLACES, MOST_PLACES)
 }
 
 /// How many sums of a ground each two parts stand in together. Linear in the nodes and their parts.
 pub fn counts_of(alloc: Global, g: &Ground) -> Result<Counts, Memory> {
+    let places = places_for(g);
     let mut counts = Counts {
-        counts: vec![in alloc; 0_u8; places_for(g)]?,
+        counts: vec![in alloc; 0_u8; places]?,
+        joined: vec![in alloc; false; places]?,
     };
     for term in 0..g.arena.len() {
         if let Node::Add(_, parts) = g.arena.node(Term::new(term as u32)) {

@@ -7,7 +7,7 @@ ghost use Rattle.ep_share.specs.Cutting as specs;
 ghost use Rattle.ep_share.specs.Cutting.{AreFarBefore, ArePartsOf, AreTwoPlaces, CanBeTaken, IsMade, IsTaken, StandsForParts, addend_at, pair_of, told_reach};
 ghost use Rattle.ep_share.specs.Standing.{IsSettled};
 
-use crate::counting::Tally;
+use crate::counting::{Counts, Tally};
 use crate::making::{Making, take};
 use crate::pairs::{Places, best_places, pair_node};
 use ep_base::Memory;
@@ -61,6 +61,7 @@ fn cut(
     alloc: Global,
     made: &mut Making,
     cells: &[Cell],
+    counts: &mut Counts,
     tally: Tally,
     parts: Vec<(i64, Term)>,
 ) -> Result<Vec<(i64, Term)>, Memory>
@@ -75,10 +76,11 @@ fn cut(
     let mut left = parts;
     let mut tally = tally;
     for _turn in 0..MOST_PARTS {
-        let Some(at) = best_places(&made.spans, &tally, &left) else {
+        let Some(at) = best_places(&made.spans, counts, &tally, &left) else {
             return Ok(left);
         };
         let term = take_pair(alloc, made, cells, &left, at)?;
+        counts.note(&left, at);
         tally.join(at);
         left = with_pair(left, at, term);
     }
@@ -128,6 +130,7 @@ fn settled_sum(
     alloc: Global,
     made: &mut Making,
     cells: &[Cell],
+    counts: &mut Counts,
     tally: Tally,
     number: i64,
     parts: Vec<(i64, Term)>,
@@ -141,7 +144,7 @@ fn settled_sum(
         let term = take(made, cells, Node::Add(number, parts))?;
         return Ok(term);
     }
-    let left = cut(alloc, made, cells, tally, parts)?;
+    let left = cut(alloc, made, cells, counts, tally, parts)?;
     let term = sum_of(made, cells, number, left)?;
     Ok(term)
 }
@@ -151,6 +154,7 @@ pub fn settled(
     alloc: Global,
     made: &mut Making,
     cells: &[Cell],
+    counts: &mut Counts,
     tally: Tally,
     node: Node,
 ) -> Result<Term, Memory>
@@ -161,7 +165,7 @@ pub fn settled(
 {
     match node {
         Node::Add(number, parts) => {
-            let term = settled_sum(alloc, made, cells, tally, number, parts)?;
+            let term = settled_sum(alloc, made, cells, counts, tally, number, parts)?;
             Ok(term)
         }
         other => {

@@ -6,7 +6,7 @@ ghost use Rattle.ep_numbers.specs.Spans.{interval_of};
 ghost use Rattle.ep_share.specs.Cutting as specs;
 ghost use Rattle.ep_share.specs.Cutting.{AreFarBefore, ArePartsOf, ArePlacesOfNear, AreTwoPlaces, IsNearPair, pair_of, told_reach};
 
-use crate::counting::Tally;
+use crate::counting::{Counts, Tally};
 use ep_base::Memory;
 use ep_ground::{Node, Term};
 use ep_numbers::{Span, added, near, scaled};
@@ -67,13 +67,24 @@ pub fn is_near_pair(spans: &[Span], p: (i64, Term), q: (i64, Term)) -> bool
     }
 }
 
-/// The two places of which the parts stand together in more sums.
-fn better(tally: &Tally, best: Option<Places>, at: Places) -> Places
+/// How much is won where the parts at two places become one: the sums that they stand in together, and more where they are a term already.
+fn gain(counts: &Counts, tally: &Tally, parts: &[(i64, Term)], at: Places) -> u8 {
+    tally.together(at).saturating_add(counts.more(parts, at))
+}
+
+/// The two places by which more is won.
+fn better(
+    counts: &Counts,
+    tally: &Tally,
+    parts: &[(i64, Term)],
+    best: Option<Places>,
+    at: Places,
+) -> Places
     ensures { (result ≡ at) ⊎ (best ≡ Some result) }
 {
     match best {
         Some(so_far) => {
-            if tally.together(at) > tally.together(so_far) {
+            if gain(counts, tally, parts, at) > gain(counts, tally, parts, so_far) {
                 at
             } else {
                 so_far
@@ -83,10 +94,11 @@ fn better(tally: &Tally, best: Option<Places>, at: Places) -> Places
     }
 }
 
-/// Two parts of a sum with a near sum, the later one at this place; where there are several the two that stand together in most
-/// sums, and the best so far where none is better.
+/// Two parts of a sum with a near sum, the later one at this place; where there are several the two by which most is won,
+/// and the best so far where none is better.
 fn best_with(
     spans: &[Span],
+    counts: &Counts,
     tally: &Tally,
     parts: &[(i64, Term)],
     second: usize,
@@ -104,14 +116,19 @@ fn best_with(
     let mut found = best;
     for first in 0..second {
         if is_near_pair(spans, parts[first], parts[second]) {
-            found = Some(better(tally, found, Places { first, second }));
+            found = Some(better(counts, tally, parts, found, Places { first, second }));
         }
     }
     found
 }
 
-/// Two parts of a sum with a near sum, those that stand together in most sums. Quadratic in the parts.
-pub fn best_places(spans: &[Span], tally: &Tally, parts: &[(i64, Term)]) -> Option<Places>
+/// Two parts of a sum with a near sum, those by which most is won. Quadratic in the parts.
+pub fn best_places(
+    spans: &[Span],
+    counts: &Counts,
+    tally: &Tally,
+    parts: &[(i64, Term)],
+) -> Option<Places>
     requires parts { ArePartsOf (length spans.now) parts.now }
     ensures places { IfSome result (AreTwoPlaces parts.now) }
     ensures near { IfSome result (ArePlacesOfNear (told_reach spans.now) parts.now) }
@@ -119,7 +136,7 @@ pub fn best_places(spans: &[Span], tally: &Tally, parts: &[(i64, Term)]) -> Opti
 {
     let mut best = None;
     for second in 0..parts.len() {
-        best = best_with(spans, tally, parts, second, best);
+        best = best_with(spans, counts, tally, parts, second, best);
     }
     best
 }

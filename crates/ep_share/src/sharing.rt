@@ -78,7 +78,7 @@ fn tally_for(alloc: Global, counts: &Counts, node: &Node) -> Result<Tally, Memor
 fn images_of(
     alloc: Global,
     made: &mut Making,
-    counts: &Counts,
+    counts: &mut Counts,
     g: &Ground,
 ) -> Result<Vec<Term>, Memory>
     requires nodes { length (plain_ground g.now).nodes ≤ MOST_NODES }
@@ -96,7 +96,7 @@ fn images_of(
         let old = g.arena.node(Term::new(t as u32));
         let tally = tally_for(alloc, counts, old)?;
         let node = with_parts(alloc, &images, old)?;
-        let image = settled(alloc, made, &g.cells, tally, node)?;
+        let image = settled(alloc, made, &g.cells, counts, tally, node)?;
         images.push(image)?;
     }
     Ok(images)
@@ -105,7 +105,7 @@ fn images_of(
 /// A ground that keeps the same values of the cells, with the same numbers of the objective, in which no two parts stand together
 /// in two different sums of eight parts at most, as long as the stages compute with their sum.
 ///
-/// Each such sum is cut into sums of two parts, those first that stand together in most sums. One pass, linear in the nodes and
+/// Each such sum is cut into sums of two parts, those first that stand together in most sums, or are a term already. One pass, linear in the nodes and
 /// their parts. A ground with a sum of over 2^32 parts is given back as it is.
 pub fn share(alloc: Global, g: Ground) -> Result<Ground, Memory>
     requires nodes { length (plain_ground g).nodes ≤ MOST_NODES }
@@ -124,9 +124,9 @@ pub fn share(alloc: Global, g: Ground) -> Result<Ground, Memory>
     if !have_few_parts(&g.arena) {
         return Ok(g);
     }
-    let counts = counts_of(alloc, &g)?;
+    let mut counts = counts_of(alloc, &g)?;
     let mut made = nothing(alloc);
-    let images = images_of(alloc, &mut made, &counts, &g)?;
+    let images = images_of(alloc, &mut made, &mut counts, &g)?;
     let Making { arena, .. } = made;
     let new = new_ground(alloc, g, arena, &images)?;
     Ok(new)
