@@ -22,17 +22,24 @@ fn narrow(number: u64) -> u32 {
     number.min(u64::from(u32::MAX)) as u32
 }
 
+/// What is kept of a variable.
+#[derive(Clone, Copy, Debug)]
+struct Known {
+    score: u64,
+    // One more than its place in the heap, or 0.
+    place: u32,
+    // The value that it had last, and that in the longest trail without a conflict.
+    last: bool,
+    best: Option<bool>,
+}
+
 /// The variables in a heap by their scores, the greatest first: a conflict adds its weight to the scores of the variables that it
 /// met, and the weights grow. A variable that isn't in the heap has a value.
 #[derive(Drop)]
 pub struct Order {
-    scores: Vec<u64>,
-    phases: Vec<bool>,
-    // The signs in the longest trail without a conflict, and its length.
-    best: Vec<Option<bool>>,
+    vars: Vec<Known>,
+    // The length of the longest trail without a conflict.
     longest: usize,
-    // One more than the place of each variable in the heap, or 0.
-    places: Vec<u32>,
     heap: Vec<u32>,
     step: u64,
 }
@@ -41,11 +48,8 @@ impl Order {
     /// An order of no variables.
     pub fn new(alloc: Global) -> Order {
         Order {
-            scores: Vec::new(alloc),
-            phases: Vec::new(alloc),
-            best: Vec::new(alloc),
+            vars: Vec::new(alloc),
             longest: 0,
-            places: Vec::new(alloc),
             heap: Vec::new(alloc),
             step: FIRST_STEP,
         }
@@ -54,12 +58,15 @@ impl Order {
     /// Brings in the variables up to this number that weren't there, for a search that begins.
     pub fn grow(&mut self, vars: u64) -> Result<(), Memory> {
         let wanted = vars.saturating_add(1) as usize;
-        let known = self.scores.len();
+        let known = self.vars.len();
         if known < wanted {
-            self.scores.resize(wanted, 0)?;
-            self.phases.resize(wanted, true)?;
-            self.best.resize(wanted, None)?;
-            self.places.resize(wanted, 0)?;
+            let none = Known {
+                score: 0,
+                place: 0,
+                last: true,
+                best: None,
+            };
+            self.vars.resize(wanted, none)?;
             self.heap.reserve(wanted.saturating_sub(self.heap.len()))?;
         }
         self.longest = 0;
@@ -77,8 +84,8 @@ impl Order {
     /// Takes the variable of the greatest score out of the heap.
     pub fn advance(&mut self) {
         let first = self.at(0);
-        if let Some(place) = self.places.get_mut(first as usize) {
-            *place = 0;
+        if let Some(known) = self.vars.get_mut(first as usize) {
+            known.place = 0;
         }
         if let Some(last) = self.heap.pop() {
             if last != first {
@@ -89,38 +96,46 @@ impl Order {
 
     /// The value that a variable had in the longest trail without a conflict, or else last.
     pub fn phase(&self, var: u64) -> bool {
-        match self.best.get(var as usize).copied().unwrap_or(None) {
-            Some(positive) => positive,
-            None => self.phases.get(var as usize).copied().unwrap_or(true),
+        match self.vars.get(var as usize) {
+            Some(known) => match known.best {
+                Some(positive) => positive,
+                None => known.last,
+            },
+            None => true,
         }
     }
 
     fn score(&self, var: u32) -> u64 {
-        self.scores.get(var as usize).copied().unwrap_or(0)
+        match self.vars.get(var as usize) {
+            Some(known) => known.score,
+            None => 0,
+        }
     }
 
     // The variable at a place of the heap, or 0.
-    fn at(&self, place: usize) -> u32 {
-        self.heap.get(place).copied().unwrap_or(0)
+    fn at(&self, place: u32) -> u32 {
+        self.heap.get(place as usize).copied().unwrap_or(0)
     }
 
-    fn put(&mut self, place: usize, var: u32) {
-        if let Some(there) = self.heap.get_mut(place) {
+    fn put(&mut self, place: u32, var: u32) {
+        if let Some(there) = self.heap.get_mut(place as usize) {
             *there = var;
         }
-        if let Some(kept) = self.places.get_mut(var as usize) {
-            *kept = narrow(place.saturating_add(1) as u64);
+        if let Some(known) = self.vars.get_mut(var as usize) {
+            known.place = place.wrapping_add(1);
         }
     }
 
-    // Puts a variable to this place, or above it.
-    fn rise(&mut self, place: usize, var: u32) {
-        let score = self.score(var);
+    // Puts a variable of this score to this place, or above it.
+    fn rise(&mut self, place: u32, var: u32, score: u64) {
         let mut place = place;
         for _ in 0..LEVELS {
-            let above = place.saturating_sub(1) / 2;
+            if place == 0 {
+                break;
+            }
+            let above = (place - 1) / 2;
             let parent = self.at(above);
-            if place == 0 || self.score(parent) >= score {
+            if self.score(parent) >= score {
                 break;
             }
             self.put(place, parent);
@@ -132,17 +147,21 @@ impl Order {
     // Puts a variable to the first place, or below it.
     fn sink(&mut self, var: u32) {
         let score = self.score(var);
-        let mut place: usize = 0;
+        let mut place = 0u32;
         for _ in 0..LEVELS {
-            let left = place.saturating_mul(2).saturating_add(1);
-            let right = left.saturating_add(1);
-            let below = if self.score(self.at(right)) > self.score(self.at(left)) {
-                right
-            } else {
-                left
-            };
-            let child = self.at(below);
-            if child == 0 || score >= self.score(child) {
+            let left = place.wrapping_mul(2).wrapping_add(1);
+            let right = left.wrapping_add(1);
+            let mut below = left;
+            let mut child = self.at(left);
+            let mut most = self.score(child);
+            let other = self.at(right);
+            let its = self.score(other);
+            if its > most {
+                below = right;
+                child = other;
+                most = its;
+            }
+            if child == 0 || score >= most {
                 break;
             }
             self.put(place, child);
@@ -153,11 +172,20 @@ impl Order {
 
     // Brings a variable into the heap, unless it is there.
     fn insert(&mut self, var: u32) -> Result<(), Memory> {
-        if self.places.get(var as usize).copied().unwrap_or(1) == 0 {
-            self.heap.push(var)?;
-            let place = self.heap.len().saturating_sub(1);
-            self.rise(place, var);
+        let Some(known) = self.vars.get(var as usize).copied() else {
+            return Ok(());
+        };
+        if known.place > 0 {
+            return Ok(());
         }
+        self.push(var, known.score)
+    }
+
+    // Brings a variable of this score into the heap.
+    fn push(&mut self, var: u32, score: u64) -> Result<(), Memory> {
+        let place = narrow(self.heap.len() as u64);
+        self.heap.push(var)?;
+        self.rise(place, var, score);
         Ok(())
     }
 
@@ -169,8 +197,8 @@ impl Order {
         }
         self.longest = count;
         for lit in lits.iter().take(count) {
-            if let Some(sign) = self.best.get_mut(lit.var() as usize) {
-                *sign = Some(lit.positive());
+            if let Some(known) = self.vars.get_mut(lit.var() as usize) {
+                known.best = Some(lit.positive());
             }
         }
     }
@@ -193,18 +221,19 @@ impl Order {
     /// Raises the score of a variable.
     pub fn raise(&mut self, var: u64) {
         let step = self.step;
-        if let Some(score) = self.scores.get_mut(var as usize) {
-            *score = score.saturating_add(step);
-        }
-        let place = self.places.get(var as usize).copied().unwrap_or(0);
+        let Some(known) = self.vars.get_mut(var as usize) else {
+            return;
+        };
+        known.score = known.score.saturating_add(step);
+        let Known { score, place, .. } = *known;
         if place > 0 {
-            self.rise(place.saturating_sub(1) as usize, narrow(var));
+            self.rise(place - 1, narrow(var), score);
         }
     }
 
     fn shrink(&mut self) {
-        for score in self.scores.iter_mut() {
-            *score >>= SHIFT;
+        for known in self.vars.iter_mut() {
+            known.score >>= SHIFT;
         }
         self.step = (self.step >> SHIFT).max(1);
     }
@@ -212,10 +241,14 @@ impl Order {
     /// Keeps the value of a literal that is about to be taken back, and brings its variable into the heap.
     pub fn release(&mut self, lit: ShortLit) {
         let var = lit.var();
-        if let Some(phase) = self.phases.get_mut(var as usize) {
-            *phase = lit.positive();
+        let Some(known) = self.vars.get_mut(var as usize) else {
+            return;
+        };
+        known.last = lit.positive();
+        let Known { score, place, .. } = *known;
+        if place == 0 {
+            // There is room for each variable.
+            let _ = self.push(narrow(var), score);
         }
-        // There is room for each variable.
-        let _ = self.insert(narrow(var));
     }
 }

@@ -41,10 +41,13 @@ impl Places {
         }
         self.met.fill(0);
         self.taken = 0;
-        for place in self.read..trail.len() {
-            if let Some(kept) = self.places.get_mut(trail[place].var() as usize) {
-                *kept = place.min(u32::MAX as usize) as u32;
+        let from = self.read.min(trail.len());
+        let mut place = from.min(u32::MAX as usize) as u32;
+        for lit in &trail[from..] {
+            if let Some(kept) = self.places.get_mut(lit.var() as usize) {
+                *kept = place;
             }
+            place = place.wrapping_add(1);
         }
         self.read = trail.len();
         Ok(())
