@@ -8,7 +8,7 @@ use Rattle.cnf_core.proofs.Members.{Contains-here, Contains-there, Contains-case
 use Rattle.sat_state.specs.Trail.{Entry, literals, level_of, IsOpenBelow}
 use Rattle.sat_state.specs.Stored.{clause_at}
 use Rattle.sat_state.specs.Watching.{no_lit, lit_at, far_at, listed_at, IsInSomeList, links}
-use Rattle.sat_state.specs.Guards.{is_false, IsFresh, ArePartners, IsPair, AreWatched}
+use Rattle.sat_state.specs.Guards.{is_false, IsFresh, ArePartners, IsPair, HasLater, AreWatched}
 use Rattle.sat_state.specs.Watched.{Watched}
 use Rattle.sat_state.specs.Joined.{AreJoined, IsNotLow, HasHigh, IsOfClause, uses, place_in_queue, heads_of}
 use Rattle.sat_state.specs.declared.parts.Parts.{Parts}
@@ -21,14 +21,14 @@ use Rattle.sat_state.proofs.Used.{links_below, links_set, links_more}
 
 -- ---- some literal can be watched
 
-precedes_apart : (a b : Literal) → Precedes a b → a ≡ b → ⊥
+pub precedes_apart : (a b : Literal) → Precedes a b → a ≡ b → ⊥
 precedes_apart a b (inl lt) e = absurd (omega (arith, lt, ap (λ (l : Literal). l.var) e))
 precedes_apart a b (inr (same, yes', no')) e = true≢false (sym yes' ∙ ap (λ (l : Literal). l.positive) e ∙ no')
 
 first_apart : (x y : Literal) (xs : List Literal) → IsOrdered (x ∷ xs) → Contains xs y → x ≡ y → ⊥
 first_apart x y xs ordered (k, h, e) = precedes_apart x y (subst (λ (l : Literal). Precedes x l) e (ordered 0 (suc k) y (omega arith) (omega arith)))
 
-codes_apart : (a b : Literal) → a ≢ b → code_of a ≢ code_of b
+pub codes_apart : (a b : Literal) → a ≢ b → code_of a ≢ code_of b
 codes_apart a b ne same = ne (sym (literal_again a) ∙ ap literal_at same ∙ literal_again b)
 
 one_of_two : (trail : List Entry) (clause : List Literal) (skipped : ℕ) (a b : Literal) → a ≢ b → Contains clause a → Contains clause b → IsNotLow trail a → IsNotLow trail b → HasHigh trail clause skipped
@@ -108,11 +108,17 @@ picked trail clause a b low in_a in_b ne codes high_a others_a high_b others_b =
       (All-contains (λ (x : Literal). code_of x ≢ code_of a → is_false (literals trail) x ≡ true) clause l (others_b falsified) in_l (codes_apart l a na)));
 }
 
+-- a literal of a clause has a variable
+pub picked_var : (clause : List Literal) (l : Literal) → All (λ x. Rattle.cnf_core.specs.Literal.IsVariable x.var) clause → Contains clause l → 1 ≤ l.var
+picked_var clause l variables in_clause = (All-contains (λ (x : Literal). Rattle.cnf_core.specs.Literal.IsVariable x.var) clause l variables in_clause).0
+
 -- ---- one more clause is watched
 
 -- what the two entries of a new clause are, whose number is n
 pub record IsNew (trail : List Entry) (heads : ℕ → ℕ) (n : ℕ) (clause now : List Literal) : Type 0 where
   pub long : (e : ℕ) → e / 2 ≡ n → 1 ≤ (lit_at now e).var → 2 ≤ length clause
+  pub both : (e f : ℕ) → ArePartners e f → e / 2 ≡ n → 1 ≤ (lit_at now e).var → 1 ≤ (lit_at now f).var
+  pub some : 2 ≤ length clause → 1 ≤ (lit_at now (2 * n)).var
   pub pairs : (e f : ℕ) → ArePartners e f → e / 2 ≡ n → 2 ≤ length clause → IsPair clause (lit_at now e) (lit_at now f)
   pub fresh : (e f : ℕ) → ArePartners e f → e / 2 ≡ n → 2 ≤ length clause → IsFresh trail (heads e) clause (lit_at now e) (lit_at now f)
   pub bottom : length clause < 2 → level_of trail ≡ 0
@@ -137,6 +143,19 @@ module _ (clauses : List (List Literal)) (lits : List Literal) (trail : List Ent
   is_new : (e : ℕ) → e < length now → e / 2 ≢ n → e / 2 < n
   is_new e lt ne = omega (arith, lt, size, w.entries, ne)
 
+  was : (e : ℕ) → e < length lits → 1 ≤ (lit_at now e).var → 1 ≤ (lit_at lits e).var
+  was e lt some = subst (λ (l : Literal). 1 ≤ l.var) (same e lt) some
+
+  later_more : (c : ℕ) → c < n → HasLater clauses c → HasLater more c
+  later_more c lt h = record {
+    later = h.later;
+    behind = h.behind;
+    there = omega (arith, h.there, length_push clauses clause);
+    within = λ l in_it.
+        subst (λ (ls : List Literal). Contains ls l) (sym (old_clause c lt))
+        (h.within l (subst (λ (ls : List Literal). Contains ls l) (old_clause h.later h.there) in_it));
+  }
+
   pub watched_added : AreWatched more now trail checked then
   watched_added = record {
     entries = omega (arith, size, w.entries, length_push clauses clause);
@@ -146,27 +165,41 @@ module _ (clauses : List (List Literal)) (lits : List Literal) (trail : List Ent
         let old = is_new e lt ne in
         subst (λ (c : List Literal). 2 ≤ length c) (sym (old_clause (e / 2) old)) (w.long e (old_place e old) (subst (λ (l : Literal). 1 ≤ l.var) (same e (old_place e old)) some)))
         (cases_eq (e / 2) n);
-    pairs = λ e f p lt lg. ⊎_elim
-        (λ (is : e / 2 ≡ n).
-        subst (λ (c : List Literal). IsPair c (lit_at now e) (lit_at now f)) (sym (new_clause (e / 2) is)) (new.pairs e f p is (subst (λ (c : List Literal). 2 ≤ length c) (new_clause (e / 2) is) lg)))
+    both = λ e f p lt some. ⊎_elim
+        (λ (is : e / 2 ≡ n). new.both e f p is some)
         (λ (ne : e / 2 ≢ n).
         let old = is_new e lt ne in
         let old_f : f / 2 < n = omega (arith, old, p.clause) in
-        rw (old_clause (e / 2) old, same e (old_place e old), same f (old_place f old_f))
-        (w.pairs e f p (old_place e old) (subst (λ (c : List Literal). 2 ≤ length c) (old_clause (e / 2) old) lg)))
+        subst (λ (l : Literal). 1 ≤ l.var) (sym (same f (old_place f old_f))) (w.both e f p (old_place e old) (was e (old_place e old) some)))
         (cases_eq (e / 2) n);
-    guarded = λ e lt lg.
+    pairs = λ e f p lt some. ⊎_elim
+        (λ (is : e / 2 ≡ n).
+        subst (λ (c : List Literal). IsPair c (lit_at now e) (lit_at now f)) (sym (new_clause (e / 2) is)) (new.pairs e f p is (new.long e is some)))
+        (λ (ne : e / 2 ≢ n).
+        let old = is_new e lt ne in
+        let old_f : f / 2 < n = omega (arith, old, p.clause) in
+        rw (old_clause (e / 2) old, same e (old_place e old), same f (old_place f old_f)) (w.pairs e f p (old_place e old) (was e (old_place e old) some)))
+        (cases_eq (e / 2) n);
+    guarded = λ e lt some.
         let old : e / 2 < n = omega (arith, lt, within) in
-        rw (stays e (old_place e old), old_clause (e / 2) old, same e (old_place e old)) (w.guarded e lt (subst (λ (c : List Literal). 2 ≤ length c) (old_clause (e / 2) old) lg));
-    fresh = λ e f p lt le lg. ⊎_elim
+        rw (stays e (old_place e old), old_clause (e / 2) old, same e (old_place e old)) (w.guarded e lt (was e (old_place e old) some));
+    fresh = λ e f p lt le some. ⊎_elim
         (λ (is : e / 2 ≡ n).
-        subst (λ (c : List Literal). IsFresh trail (then e) c (lit_at now e) (lit_at now f)) (sym (new_clause (e / 2) is)) (new.fresh e f p is (subst (λ (c : List Literal). 2 ≤ length c) (new_clause (e / 2) is) lg)))
+        subst (λ (c : List Literal). IsFresh trail (then e) c (lit_at now e) (lit_at now f)) (sym (new_clause (e / 2) is)) (new.fresh e f p is (new.long e is some)))
         (λ (ne : e / 2 ≢ n).
         let old = is_new e lt ne in
         let old_f : f / 2 < n = omega (arith, old, p.clause) in
-        rw (stays e (old_place e old), old_clause (e / 2) old, same e (old_place e old), same f (old_place f old_f))
-        (w.fresh e f p (old_place e old) le (subst (λ (c : List Literal). 2 ≤ length c) (old_clause (e / 2) old) lg)))
+        rw (stays e (old_place e old), old_clause (e / 2) old, same e (old_place e old), same f (old_place f old_f)) (w.fresh e f p (old_place e old) le (was e (old_place e old) some)))
         (cases_eq (e / 2) n);
+    out = λ c lt lg none. ⊎_elim
+        (λ (is : c ≡ n).
+        let some : 1 ≤ (lit_at now (2 * n)).var = new.some (subst (λ (x : List Literal). 2 ≤ length x) (new_clause c is) lg) in
+        absurd (omega (arith, some, subst (λ (k : ℕ). (lit_at now (2 * k)).var ≡ 0) is none)))
+        (λ (ne : c ≢ n).
+        let old : c < n = omega (arith, lt, length_push clauses clause, ne) in
+        let place : 2 * c < length lits = omega (arith, old, w.entries) in
+        later_more c old (w.out c old (subst (λ (x : List Literal). 2 ≤ length x) (old_clause c old) lg) (ap (λ (l : Literal). l.var) (sym (same (2 * c) place)) ∙ none)))
+        (cases_eq c n);
     short = λ c lt small.
         let old : c < n = omega (arith, lt, within) in
         rw (old_clause c old) (w.short c lt (subst (λ (x : List Literal). length x < 2) (old_clause c old) small));
@@ -200,14 +233,16 @@ last_two lits e n size is = ⊎_elim
 pub new_short : (trail : List Entry) (heads : ℕ → ℕ) (n : ℕ) (clause lits : List Literal) → length lits ≡ 2 * n → length clause < 2 → level_of trail ≡ 0 → IsNew trail heads n clause (lits ++ no_lit ∷ no_lit ∷ [])
 new_short trail heads n clause lits size small bottom = record {
   long = λ e is some. absurd (omega (arith, some, ap (λ (l : Literal). l.var) (last_two lits e n size is)));
+  both = λ e f p is some. absurd (omega (arith, some, ap (λ (l : Literal). l.var) (last_two lits e n size is)));
+  some = λ lg. absurd (omega (arith, small, lg));
   pairs = λ e f p is lg. absurd (omega (arith, small, lg));
   fresh = λ e f p is lg. absurd (omega (arith, small, lg));
   bottom = λ h. bottom;
 }
 
-pub new_long : (trail : List Entry) (heads : ℕ → ℕ) (n : ℕ) (clause lits : List Literal) (a b : Literal) → length lits ≡ 2 * n → 2 ≤ length clause → ArePicked trail clause a b
+pub new_long : (trail : List Entry) (heads : ℕ → ℕ) (n : ℕ) (clause lits : List Literal) (a b : Literal) → length lits ≡ 2 * n → 2 ≤ length clause → 1 ≤ a.var → 1 ≤ b.var → ArePicked trail clause a b
     → IsNew trail heads n clause (set (set (lits ++ no_lit ∷ no_lit ∷ []) (2 * n) a) (2 * n + 1) b)
-new_long trail heads n clause lits a b size lg pick =
+new_long trail heads n clause lits a b size lg some_a some_b pick =
     let start = lits ++ no_lit ∷ no_lit ∷ [] in
     let len : length start ≡ 2 * n + 2 = omega (arith, length-append lits (no_lit ∷ no_lit ∷ []), size) in
     let now = set (set start (2 * n) a) (2 * n + 1) b in
@@ -216,6 +251,12 @@ new_long trail heads n clause lits a b size lg pick =
     = get_or-set_other (set start (2 * n) a) (2 * n + 1) (2 * n) b no_lit (λ same. absurd (omega (arith, same))) ∙ get_or-set_same start (2 * n) a no_lit (omega (arith, len)) in
     record {
       long = λ e is some. lg;
+      both = λ e f p is some.
+          elim (two_entries n e f p is) [
+            | inl both ↦ rw (both.1, at_b) some_b
+            | inr both ↦ rw (both.1, at_a) some_a
+          ];
+      some = λ h. rw at_a some_a;
       pairs = λ e f p is h.
           elim (two_entries n e f p is) [
             | inl both ↦ rw (both.0, both.1, at_a, at_b) pick.first
@@ -292,7 +333,7 @@ both_of clauses clause lits x e pair l is place there two in_clause =
     subst (IsOfClause (clauses ++ clause ∷ []) lits) (sym is)
     (record { there = there; two = λ said. subst (λ (c : List Literal). length c ≡ 2) at (two said); in_clause = subst (λ (c : List Literal). Contains c l) at in_clause })
 
-module _ (old : Parts) (clause : List Literal) (a b : Literal) (j : AreJoined old) (long : 2 ≤ length clause) (pick : ArePicked old.assigned.trail clause a b) where
+module _ (old : Parts) (clause : List Literal) (a b : Literal) (j : AreJoined old) (long : 2 ≤ length clause) (some_a : 1 ≤ a.var) (some_b : 1 ≤ b.var) (pick : ArePicked old.assigned.trail clause a b) where
   abbrev blank : List Literal
   blank = old.watches.lits ++ no_lit ∷ no_lit ∷ []
 
@@ -323,7 +364,7 @@ module _ (old : Parts) (clause : List Literal) (a b : Literal) (j : AreJoined ol
       links_below (old.clauses.lists ++ clause ∷ []) both_set old.assigned.trail old.queue.checked heads
       (watched_added old.clauses.lists old.watches.lits old.assigned.trail old.queue.checked heads j.watched j.checked_in clause both_set heads size
       (same_before_two old.watches.lits (length old.clauses.lists) a b j.watched.entries) (λ x lt. refl)
-      (new_long old.assigned.trail heads (length old.clauses.lists) clause old.watches.lits a b j.watched.entries long pick))
+      (new_long old.assigned.trail heads (length old.clauses.lists) clause old.watches.lits a b j.watched.entries long some_a some_b pick))
       code some
 
   pub added_first : 2 ≤ code_of a → links blank (code_of a) < uses (old.clauses.lists ++ clause ∷ []) (code_of a)

@@ -1,6 +1,6 @@
 -- Where the clauses force nothing more, propagation finds nothing.
 use Rattle.std.proofs.Common.{◌≡◌, ℕ, ◌+◌, ◌<◌, ◌≤◌, true, false, Option, Some, None, IsSome, IsNone, List, [], ◌∷◌, length, take, drop, get_or, All, Contains, refl, sym, ap, ◌∙◌, subst, ⊎_elim, arith}
-use Rattle.std.specs.Prelude.{nat_eq, ◌&&◌}
+use Rattle.std.specs.Prelude.{Bool, nat_eq, ◌&&◌}
 use Rattle.std.specs.Option.{IfSome}
 use Rattle.std.proofs.lemmas.Bool.{cases_lt, eq-eqb}
 use Rattle.std.proofs.lemmas.List.{take_all, get_or-drop, length-drop}
@@ -48,3 +48,21 @@ no_conflict (Some n) clauses trail ends named = absurd (none_falsified (literals
 pub seen_at_end : (p : Parts) → IsAllSeen p → (nat_eq p.queue.checked (length p.clauses.lists) && nat_eq p.queue.head (length p.assigned.trail) && nat_eq p.queue.far (length p.assigned.trail)) ≡ true
 seen_at_end p seen =
     rw (eq-eqb p.queue.checked (length p.clauses.lists) seen.checked, eq-eqb p.queue.head (length p.assigned.trail) (seen.head false), eq-eqb p.queue.far (length p.assigned.trail) (seen.head true)) refl
+
+both_true : (a b : Bool) → (a && b) ≡ true → (a ≡ true) × (b ≡ true)
+both_true true b e = (refl, e)
+both_true false b e = absurd (Rattle.std.proofs.lemmas.Bool.false≢true e)
+
+-- where the state is seen to be at its end, all was looked at
+pub all_seen : (p : Parts) → (nat_eq p.queue.checked (length p.clauses.lists) && nat_eq p.queue.head (length p.assigned.trail) && nat_eq p.queue.far (length p.assigned.trail)) ≡ true → IsAllSeen p
+all_seen p e =
+    let first = both_true (nat_eq p.queue.checked (length p.clauses.lists) && nat_eq p.queue.head (length p.assigned.trail)) (nat_eq p.queue.far (length p.assigned.trail)) e in
+    let rest = both_true (nat_eq p.queue.checked (length p.clauses.lists)) (nat_eq p.queue.head (length p.assigned.trail)) first.0 in
+    record {
+      checked = Rattle.std.proofs.lemmas.Bool.eqb-true p.queue.checked (length p.clauses.lists) rest.0;
+      head = by_part (Rattle.std.proofs.lemmas.Bool.eqb-true p.queue.head (length p.assigned.trail) rest.1) (Rattle.std.proofs.lemmas.Bool.eqb-true p.queue.far (length p.assigned.trail) first.1);
+    }
+  where
+    by_part : p.queue.head ≡ length p.assigned.trail → p.queue.far ≡ length p.assigned.trail → (far : Bool) → Rattle.sat_state.specs.Joined.place_in_queue p.queue far ≡ length p.assigned.trail
+    by_part near others true = others
+    by_part near others false = near

@@ -90,12 +90,12 @@ of_clause_again old new x clauses size is = record {
   in_clause = subst (λ (cs : List (List Literal)). Contains (clause_at cs (x.entry / 2)) x.blocker) (sym clauses) is.in_clause;
 }
 
-blockers_again : (old new : Parts) → AreJoined old → new.clauses.lists ≡ old.clauses.lists → length new.watches.lits ≡ length old.watches.lits → StandsAs old.clauses.lists old.watches.lits old.watches.stands new.watches.stands → (x : Watched) → IsInSomeList new.watches.stands x → IsOfClause new.clauses.lists new.watches.lits x
+pub blockers_again : (old new : Parts) → AreJoined old → new.clauses.lists ≡ old.clauses.lists → length new.watches.lits ≡ length old.watches.lits → StandsAs old.clauses.lists old.watches.lits old.watches.stands new.watches.stands → (x : Watched) → IsInSomeList new.watches.stands x → IsOfClause new.clauses.lists new.watches.lits x
 blockers_again old new j clauses size stays_in x s =
     of_clause_again old new x clauses size
     (⊎_elim (λ (stood : IsInSomeList old.watches.stands x). j.blockers x stood) (λ (is : IsOfClause old.clauses.lists old.watches.lits x). is) (stays_in.each x s))
 
-rooms_again : (old new : Parts) → AreJoined old → new.clauses.lists ≡ old.clauses.lists → HasRoomOf old.watches.stands new.watches.stands → (c : ℕ) → uses new.clauses.lists c ≤ (listed_at new.watches.stands c).room
+pub rooms_again : (old new : Parts) → AreJoined old → new.clauses.lists ≡ old.clauses.lists → HasRoomOf old.watches.stands new.watches.stands → (c : ℕ) → uses new.clauses.lists c ≤ (listed_at new.watches.stands c).room
 rooms_again old new j clauses room c = omega (arith, ap (λ (cs : List (List Literal)). uses cs c) clauses, j.rooms c, room.each c)
 
 -- the same clauses, watched literals, trail and queue
@@ -328,7 +328,7 @@ both_tiers queue n near far false = near
 
 -- ---- one entry of a walk
 
-rest_of : (waiting : List ℕ) (e x : ℕ) → waiting ≡ e ∷ drop 1 waiting → Contains waiting x → x ≢ e → Contains (drop 1 waiting) x
+pub rest_of : (waiting : List ℕ) (e x : ℕ) → waiting ≡ e ∷ drop 1 waiting → Contains waiting x → x ≢ e → Contains (drop 1 waiting) x
 rest_of waiting e x is h ne =
     elim (Contains-cases e (drop 1 waiting) x (subst (λ (ws : List ℕ). Contains ws x) is h)) [
       | inl same ↦ absurd (ne (sym same))
@@ -361,8 +361,11 @@ module _ (old : Parts) (j : AreJoined old) (w : IsWalking old) (v : Watched) (ne
   pub entry_clause : v.entry / 2 < length old.clauses.lists
   entry_clause = omega (arith, next.there, j.watched.entries)
 
+  entry_some : 1 ≤ old.watches.walked.var → 1 ≤ (lit_at old.watches.lits v.entry).var
+  entry_some some = subst (λ (l : Literal). 1 ≤ l.var) (sym next.walked) some
+
   pub entry_long : 1 ≤ old.watches.walked.var → 2 ≤ length (clause_at old.clauses.lists (v.entry / 2))
-  entry_long some = j.watched.long v.entry next.there (subst (λ (l : Literal). 1 ≤ l.var) (sym next.walked) some)
+  entry_long some = j.watched.long v.entry next.there (entry_some some)
 
   -- the literal beside the entry is of its clause
   pub blocker_in : Contains (clause_at old.clauses.lists (v.entry / 2)) v.blocker
@@ -380,7 +383,7 @@ module _ (old : Parts) (j : AreJoined old) (w : IsWalking old) (v : Watched) (ne
   walked_in =
       let e = v.entry in
       let f = other_of e in
-      subst (λ (l : Literal). Contains (clause_at old.clauses.lists (e / 2)) l) next.walked (j.watched.pairs e f (other_partner e) next.there (entry_long w.some)).in_clause
+      subst (λ (l : Literal). Contains (clause_at old.clauses.lists (e / 2)) l) next.walked (j.watched.pairs e f (other_partner e) next.there (entry_some w.some)).in_clause
 
   -- where the clause has two literals, one that isn't false is what the clause gives
   pub gives_pair : v.pair ≡ true → is_false (literals old.assigned.trail) v.blocker ≡ false → Gives (literals old.assigned.trail) (clause_at old.clauses.lists (v.entry / 2)) v.blocker
@@ -445,7 +448,7 @@ module _ (old : Parts) (j : AreJoined old) (w : IsWalking old) (v : Watched) (ne
         grounded = rw (clauses, assigned) j.grounded;
         watched = rw (clauses, assigned, queue)
             (watched_moved old.clauses.lists old.watches.lits old.assigned.trail old.queue.checked (heads_of old.queue old.watches.fars) j.watched (joined_consistent old j) (joined_low old j) w.checked new.watches.lits
-            (heads_of old.queue new.watches.fars) v.entry l size next.there at others (λ x ne. ap (place_in_queue old.queue) (tiers x ne)) lg in_clause (λ g q. subst (λ (z : ℕ). l ≢ lit_at old.watches.lits z) (sym (same_partner f v.entry g (turned v.entry f p) (turned v.entry g q))) not_other)
+            (heads_of old.queue new.watches.fars) v.entry l size next.there at others (λ x ne. ap (place_in_queue old.queue) (tiers x ne)) (entry_some w.some) (var_some old j (v.entry / 2) l entry_clause in_clause) in_clause (λ g q. subst (λ (z : ℕ). l ≢ lit_at old.watches.lits z) (sym (same_partner f v.entry g (turned v.entry f p) (turned v.entry g q))) not_other)
             (not_among (literals old.assigned.trail) (negation l) not_false));
         checked_in = rw (clauses, queue) j.checked_in;
         head_in = rw (assigned, queue) j.head_in;
@@ -613,9 +616,8 @@ module _ (old : Parts) (j : AreJoined old) (w : IsWalking old) (v : Watched) (ne
 
   pub other_pair : IsPair (clause_at old.clauses.lists (v.entry / 2)) (lit_at old.watches.lits f) (lit_at old.watches.lits v.entry)
   other_pair =
-      let lg = entry_long old j w v next w.some in
       subst (λ (n : ℕ). IsPair (clause_at old.clauses.lists n) (lit_at old.watches.lits f) (lit_at old.watches.lits v.entry)) (sym p.clause)
-      (j.watched.pairs f v.entry (turned v.entry f p) other_there (subst (λ (n : ℕ). 2 ≤ length (clause_at old.clauses.lists n)) p.clause lg))
+      (j.watched.pairs f v.entry (turned v.entry f p) other_there (j.watched.both v.entry f p next.there (entry_some old j w v next w.some)))
 
   pub other_var : 1 ≤ (lit_at old.watches.lits f).var
   other_var = var_some old j (v.entry / 2) (lit_at old.watches.lits f) (entry_clause old j w v next) other_pair.in_clause
@@ -646,7 +648,7 @@ module _ (old : Parts) (j : AreJoined old) (w : IsWalking old) (v : Watched) (ne
       let some : 2 ≤ code_of l = code_two l (var_some old j (e / 2) l (entry_clause old j w v next) in_clause) in
       let watched = watched_moved old.clauses.lists old.watches.lits trail old.queue.checked heads j.watched (joined_consistent old j) (joined_low old j) w.checked now heads e l
       (length-set without e l ∙ size) next.there (get_or-set_same without e l no_lit there)
-      (λ x ne. get_or-set_other without e x l no_lit ne ∙ get_or-set_other old.watches.lits e x no_lit no_lit ne) (λ x ne. refl) lg in_clause
+      (λ x ne. get_or-set_other without e x l no_lit ne ∙ get_or-set_other old.watches.lits e x no_lit no_lit ne) (λ x ne. refl) (entry_some old j w v next w.some) (var_some old j (e / 2) l (entry_clause old j w v next) in_clause) in_clause
       (λ g q. subst (λ (z : ℕ). l ≢ lit_at old.watches.lits z) (sym (same_partner f e g (turned e f p) (turned e g q))) not_other)
       (not_among (literals trail) (negation l) not_false) in
       omega (arith, links_set without e l there none some, links_below old.clauses.lists now trail old.queue.checked heads watched (code_of l) some)
@@ -656,21 +658,15 @@ first_is waiting e is = ap (λ (ws : List ℕ). get_or ws 0 0) is
 
 -- ---- what a clause watches
 
-module _ (p : Parts) (j : AreJoined p) (n : ℕ) (there : n < length p.clauses.lists) (lg : 2 ≤ length (clause_at p.clauses.lists n)) where
-  first_place : (2 * n) / 2 ≡ n
+module _ (p : Parts) (j : AreJoined p) (n : ℕ) (there : n < length p.clauses.lists) (some : 1 ≤ (lit_at p.watches.lits (2 * n)).var) where
+  pub first_place : (2 * n) / 2 ≡ n
   first_place = omega arith
 
-  second_place : (2 * n + 1) / 2 ≡ n
+  pub second_place : (2 * n + 1) / 2 ≡ n
   second_place = omega arith
 
-  sides : ArePartners (2 * n) (2 * n + 1)
+  pub sides : ArePartners (2 * n) (2 * n + 1)
   sides = record { clause = omega (arith, first_place, second_place); apart = λ same. absurd (omega (arith, same)) }
-
-  first_long : 2 ≤ length (clause_at p.clauses.lists ((2 * n) / 2))
-  first_long = subst (λ (k : ℕ). 2 ≤ length (clause_at p.clauses.lists k)) (sym first_place) lg
-
-  second_long : 2 ≤ length (clause_at p.clauses.lists ((2 * n + 1) / 2))
-  second_long = subst (λ (k : ℕ). 2 ≤ length (clause_at p.clauses.lists k)) (sym second_place) lg
 
   pub pair_there : 2 * n + 1 < length p.watches.lits
   pair_there = omega (arith, j.watched.entries, there)
@@ -678,31 +674,27 @@ module _ (p : Parts) (j : AreJoined p) (n : ℕ) (there : n < length p.clauses.l
   pub first_pair : IsPair (clause_at p.clauses.lists n) (lit_at p.watches.lits (2 * n)) (lit_at p.watches.lits (2 * n + 1))
   first_pair =
       subst (λ (k : ℕ). IsPair (clause_at p.clauses.lists k) (lit_at p.watches.lits (2 * n)) (lit_at p.watches.lits (2 * n + 1))) first_place
-      (j.watched.pairs (2 * n) (2 * n + 1) sides (omega (arith, pair_there)) first_long)
+      (j.watched.pairs (2 * n) (2 * n + 1) sides (omega (arith, pair_there)) some)
+
+  pub second_var : 1 ≤ (lit_at p.watches.lits (2 * n + 1)).var
+  second_var = j.watched.both (2 * n) (2 * n + 1) sides (omega (arith, pair_there)) some
 
   pub second_pair : IsPair (clause_at p.clauses.lists n) (lit_at p.watches.lits (2 * n + 1)) (lit_at p.watches.lits (2 * n))
   second_pair =
       subst (λ (k : ℕ). IsPair (clause_at p.clauses.lists k) (lit_at p.watches.lits (2 * n + 1)) (lit_at p.watches.lits (2 * n))) second_place
-      (j.watched.pairs (2 * n + 1) (2 * n) (turned (2 * n) (2 * n + 1) sides) pair_there second_long)
+      (j.watched.pairs (2 * n + 1) (2 * n) (turned (2 * n) (2 * n + 1) sides) pair_there second_var)
 
-  pub first_var : 1 ≤ (lit_at p.watches.lits (2 * n)).var
-  first_var = var_some p j n (lit_at p.watches.lits (2 * n)) there first_pair.in_clause
-
-  pub second_var : 1 ≤ (lit_at p.watches.lits (2 * n + 1)).var
-  second_var = var_some p j n (lit_at p.watches.lits (2 * n + 1)) there second_pair.in_clause
-
-  whole_guard : (e : ℕ) → e / 2 ≡ n → IsAllSeen p → Guards p.assigned.trail (length p.assigned.trail) (lit_at p.watches.lits e) (clause_at p.clauses.lists n)
-  whole_guard e place seen =
-      let long : 2 ≤ length (clause_at p.clauses.lists (e / 2)) = subst (λ (k : ℕ). 2 ≤ length (clause_at p.clauses.lists k)) (sym place) lg in
+  whole_guard : (e : ℕ) → e / 2 ≡ n → 1 ≤ (lit_at p.watches.lits e).var → IsAllSeen p → Guards p.assigned.trail (length p.assigned.trail) (lit_at p.watches.lits e) (clause_at p.clauses.lists n)
+  whole_guard e place one seen =
       subst (λ (k : ℕ). Guards p.assigned.trail (length p.assigned.trail) (lit_at p.watches.lits e) (clause_at p.clauses.lists k)) place
       (subst (λ (k : ℕ). Guards p.assigned.trail k (lit_at p.watches.lits e) (clause_at p.clauses.lists (e / 2))) (seen.head (far_at p.watches.fars e))
-      (j.watched.guarded e (omega (arith, place, seen.checked, there)) long))
+      (j.watched.guarded e (omega (arith, place, seen.checked, there)) one))
 
   pub first_guard : IsAllSeen p → Guards p.assigned.trail (length p.assigned.trail) (lit_at p.watches.lits (2 * n)) (clause_at p.clauses.lists n)
-  first_guard = whole_guard (2 * n) first_place
+  first_guard = whole_guard (2 * n) first_place some
 
   pub second_guard : IsAllSeen p → Guards p.assigned.trail (length p.assigned.trail) (lit_at p.watches.lits (2 * n + 1)) (clause_at p.clauses.lists n)
-  second_guard = whole_guard (2 * n + 1) second_place
+  second_guard = whole_guard (2 * n + 1) second_place second_var
 
 -- ---- the literal that guards a false one
 

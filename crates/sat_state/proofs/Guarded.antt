@@ -1,5 +1,5 @@
 -- Watched literals, as literals become true, as clauses are looked at, and as entries move.
-use Rattle.std.proofs.Common.{◌≡◌, ◌≢◌, ℕ, ◌+◌, ◌-◌, ◌*◌, ◌/◌, ◌%◌, ◌<◌, ◌≤◌, true, false, List, [], ◌∷◌, ◌++◌, length, take, drop, get_or, filter, nat_le, All, Contains, sym, ap, ◌∙◌, subst, inl, inr, ◌⊎◌, ⊎_elim, arith}
+use Rattle.std.proofs.Common.{◌≡◌, ◌≢◌, ℕ, zero, suc, ◌+◌, ◌-◌, ◌*◌, ◌/◌, ◌%◌, ◌<◌, ◌≤◌, true, false, List, [], ◌∷◌, ◌++◌, length, take, drop, get_or, filter, nat_le, All, Contains, sym, ap, ◌∙◌, subst, inl, inr, ◌⊎◌, ⊎_elim, arith}
 use Rattle.std.proofs.lemmas.Bool.{cases_eq, cases_lt, cases_Bool, le-leb}
 use Rattle.std.proofs.lemmas.Bool.Decides.{nat_tests}
 use Rattle.std.proofs.lemmas.List.{get_or_default, get_or-map, length-map, take-append-le, take_all, get_or-take, get_or-drop, length-drop, length-take, length-take-le, length-append, get_or_append_left, get_or_push}
@@ -10,7 +10,7 @@ use Rattle.cnf_core.proofs.Members.{Contains-here, Contains-cases, none_in_nil, 
 use Rattle.sat_state.specs.Trail.{Entry, literals, level_of}
 use Rattle.sat_state.specs.Stored.{clause_at}
 use Rattle.sat_state.specs.Watching.{no_lit, lit_at}
-use Rattle.sat_state.specs.Guards.{is_false, IsTrueBy, HasTrueBy, Guards, AreOthersFalse, ArePartners, IsPair, AreWatched}
+use Rattle.sat_state.specs.Guards.{is_false, IsTrueBy, HasTrueBy, Guards, AreOthersFalse, ArePartners, IsPair, HasLater, AreWatched}
 use Rattle.sat_state.specs.Joined.{some_entry}
 use Rattle.sat_state.proofs.Literals.{Contains-from_among, negation-negation}
 use Rattle.sat_state.proofs.Ends.{same_or_not, not_among}
@@ -74,7 +74,7 @@ unfolding partner_of
 is_partner e = record { clause = omega arith; apart = λ same. absurd (omega (arith, same)) }
 
 module _ (clauses : List (List Literal)) (lits : List Literal) (trail : List Entry) (checked : ℕ) (heads : ℕ → ℕ) (w : AreWatched clauses lits trail checked heads) where
-  entry_in : (e : ℕ) → e / 2 < length clauses → e < length lits
+  pub entry_in : (e : ℕ) → e / 2 < length clauses → e < length lits
   entry_in e h = omega (arith, h, w.entries)
 
   clause_in : (e : ℕ) → e < length lits → e / 2 < length clauses
@@ -91,7 +91,9 @@ module _ (clauses : List (List Literal)) (lits : List Literal) (trail : List Ent
       record {
         entries = w.entries;
         long = w.long;
+        both = w.both;
         pairs = w.pairs;
+        out = w.out;
         guarded = λ e lt lg.
             let a = lit_at lits e in
             let clause = clause_at clauses (e / 2) in
@@ -156,7 +158,9 @@ module _ (clauses : List (List Literal)) (lits : List Literal) (trail : List Ent
     watched_checked there settled = record {
       entries = w.entries;
       long = w.long;
+      both = w.both;
       pairs = w.pairs;
+      out = w.out;
       guarded = λ e lt lg. ⊎_elim
           (λ (same : e / 2 ≡ checked).
           let f = partner_of e in
@@ -167,7 +171,7 @@ module _ (clauses : List (List Literal)) (lits : List Literal) (trail : List Ent
           let in_e : e < length lits = entry_in e (omega (arith, same, there)) in
           let in_f : f < length lits = entry_in f (omega (arith, same, there, p.clause)) in
           let b_in : Contains clause b
-          = subst (λ (n : ℕ). Contains (clause_at clauses n) b) (sym p.clause) (w.pairs f e (turned e f p) in_f (subst (λ (n : ℕ). 2 ≤ length (clause_at clauses n)) p.clause lg)).in_clause in
+          = subst (λ (n : ℕ). Contains (clause_at clauses n) b) (sym p.clause) (w.pairs f e (turned e f p) in_f (w.both e f p in_e lg)).in_clause in
           let here = subst (λ (c : ℕ). HasTrueLiteral (literals trail) (clause_at clauses c) ⊎ HasTwoNotFalse (literals trail) (clause_at clauses c)) (sym same) settled in
           All-weaker (λ (z : Entry). z.literal ≡ negation a → (z.level ≡ level_of trail) × AreOthersFalse (literals trail) clause b) (λ (z : Entry). z.literal ≡ negation a → HasTrueBy trail clause z.level)
           (λ z h is. record { literal = b; in_clause = b_in; is_true = settled_true clause b z.level here (h is) }) (take (heads e) trail)
@@ -197,7 +201,9 @@ module _ (clauses : List (List Literal)) (lits : List Literal) (trail : List Ent
     watched_walked all place more walked is level now steps = record {
       entries = w.entries;
       long = w.long;
+      both = w.both;
       pairs = w.pairs;
+      out = w.out;
       guarded = λ e lt lg.
           let a = lit_at lits e in
           let clause = clause_at clauses (e / 2) in
@@ -225,15 +231,19 @@ module _ (clauses : List (List Literal)) (lits : List Literal) (trail : List Ent
     -- ---- an entry moves to a literal that isn't false
 
     pub watched_moved : checked ≡ length clauses → (now : List Literal) (then : ℕ → ℕ) (e : ℕ) (l : Literal) → length now ≡ length lits → e < length lits → lit_at now e ≡ l → ((x : ℕ) → x ≢ e → lit_at now x ≡ lit_at lits x) → ((x : ℕ) → x ≢ e → then x ≡ heads x)
-        → 2 ≤ length (clause_at clauses (e / 2)) → Contains (clause_at clauses (e / 2)) l
+        → 1 ≤ (lit_at lits e).var → 1 ≤ l.var → Contains (clause_at clauses (e / 2)) l
         → ((f : ℕ) → ArePartners e f → l ≢ lit_at lits f) → (Contains (literals trail) (negation l) → ⊥) → AreWatched clauses now trail checked then
-    watched_moved all now then e l size there at others stays lg in_clause not_other not_false = record {
+    watched_moved all now then e l size there at others stays was is in_clause not_other not_false = record {
       entries = size ∙ w.entries;
       long = λ x lt some. ⊎_elim
-          (λ (same : x ≡ e). subst (λ (y : ℕ). 2 ≤ length (clause_at clauses (y / 2))) (sym same) lg)
+          (λ (same : x ≡ e). subst (λ (y : ℕ). 2 ≤ length (clause_at clauses (y / 2))) (sym same) (w.long e there was))
           (λ (ne : x ≢ e). w.long x (omega (arith, lt, size)) (subst (λ (y : Literal). 1 ≤ y.var) (others x ne) some))
           (cases_eq x e);
-      pairs = λ x y p lt long. ⊎_elim
+      both = λ x y p lt some. ⊎_elim
+          (λ (same : y ≡ e). subst (λ (z : Literal). 1 ≤ z.var) (sym (ap (lit_at now) same ∙ at)) is)
+          (λ (ne : y ≢ e). subst (λ (z : Literal). 1 ≤ z.var) (sym (others y ne)) (w.both x y p (omega (arith, lt, size)) (was_some x some)))
+          (cases_eq y e);
+      pairs = λ x y p lt some. ⊎_elim
           (λ (same : x ≡ e).
           let q : ArePartners e y = subst (λ (z : ℕ). ArePartners z y) same p in
           let place : e / 2 ≡ x / 2 = ap (λ (z : ℕ). z / 2) (sym same) in
@@ -243,23 +253,33 @@ module _ (clauses : List (List Literal)) (lits : List Literal) (trail : List Ent
           (λ (same : y ≡ e).
           let q : ArePartners x e = subst (λ (z : ℕ). ArePartners x z) same p in
           pair_at (clause_at clauses (x / 2)) (lit_at now x) (lit_at lits x) (lit_at now y) l (others x ne) (ap (lit_at now) same ∙ at)
-          (record { in_clause = (w.pairs x y p (omega (arith, lt, size)) long).in_clause; two = λ f. not_other x (turned x e q) (sym f) }))
+          (record { in_clause = (w.pairs x y p (omega (arith, lt, size)) (was_some x some)).in_clause; two = λ f. not_other x (turned x e q) (sym f) }))
           (λ (nf : y ≢ e).
-          pair_at (clause_at clauses (x / 2)) (lit_at now x) (lit_at lits x) (lit_at now y) (lit_at lits y) (others x ne) (others y nf) (w.pairs x y p (omega (arith, lt, size)) long))
+          pair_at (clause_at clauses (x / 2)) (lit_at now x) (lit_at lits x) (lit_at now y) (lit_at lits y) (others x ne) (others y nf) (w.pairs x y p (omega (arith, lt, size)) (was_some x some)))
           (cases_eq y e))
           (cases_eq x e);
-      guarded = λ x lt long. ⊎_elim
+      guarded = λ x lt some. ⊎_elim
           (λ (same : x ≡ e).
           subst (λ (z : Literal). Guards trail (then x) z (clause_at clauses (x / 2))) (sym (ap (lit_at now) same ∙ at))
           (λ k d h is. absurd (not_false (subst (λ (z : Literal). Contains (literals trail) z) is (head_literal (then x) trail k d h)))))
           (λ (ne : x ≢ e).
           subst (λ (n : ℕ). Guards trail n (lit_at now x) (clause_at clauses (x / 2))) (sym (stays x ne))
-          (subst (λ (z : Literal). Guards trail (heads x) z (clause_at clauses (x / 2))) (sym (others x ne)) (w.guarded x lt long)))
+          (subst (λ (z : Literal). Guards trail (heads x) z (clause_at clauses (x / 2))) (sym (others x ne)) (w.guarded x lt (was_some x some))))
           (cases_eq x e);
-      fresh = λ x y p lt le long. absurd (omega (arith, clause_in x (omega (arith, lt, size)), le, all));
+      fresh = λ x y p lt le some. absurd (omega (arith, clause_in x (omega (arith, lt, size)), le, all));
+      out = λ c lt lg none. ⊎_elim
+          (λ (same : 2 * c ≡ e). absurd (omega (arith, is, none, ap (λ (z : Literal). z.var) (ap (lit_at now) same ∙ at))))
+          (λ (ne : 2 * c ≢ e). w.out c lt lg (ap (λ (z : Literal). z.var) (sym (others (2 * c) ne)) ∙ none))
+          (cases_eq (2 * c) e);
       short = w.short;
       unchecked = w.unchecked;
     }
+      where
+        was_some : (x : ℕ) → 1 ≤ (lit_at now x).var → 1 ≤ (lit_at lits x).var
+        was_some x some = ⊎_elim
+            (λ (same : x ≡ e). subst (λ (y : ℕ). 1 ≤ (lit_at lits y).var) (sym same) was)
+            (λ (ne : x ≢ e). subst (λ (y : Literal). 1 ≤ y.var) (others x ne) some)
+            (cases_eq x e)
 
     -- ---- nothing is left to look at
 
@@ -275,32 +295,42 @@ module _ (clauses : List (List Literal)) (lits : List Literal) (trail : List Ent
         let t : HasTrueBy trail clause found.0.level = All-contains (λ (z : Entry). z.literal ≡ negation a → HasTrueBy trail clause z.level) trail found.0 all found.1 found.2 in
         (t.literal, t.in_clause, is_true_by trail t.literal found.0.level t.is_true)
 
-    settled_at : checked ≡ length clauses → ((e : ℕ) → heads e ≡ length trail) → (c : ℕ) → c < length clauses → HasTrueLiteral (literals trail) (clause_at clauses c) ⊎ HasTwoNotFalse (literals trail) (clause_at clauses c)
-    settled_at all seen c there = ⊎_elim
-        (λ (small : length (clause_at clauses c) < 2).
-        let one = w.short c (omega (arith, there, all)) small in
-        let l = get_or (clause_at clauses c) 0 no_lit in
-        inl (l, first_in (clause_at clauses c) one.0, is_true_by trail l 0 (one.1 0 no_lit one.0)))
-        (λ (lg : 2 ≤ length (clause_at clauses c)).
+    -- what is so of a clause within another is so of that one
+    settled_more : (few many : List Literal) → ((l : Literal) → Contains few l → Contains many l) → HasTrueLiteral (literals trail) few ⊎ HasTwoNotFalse (literals trail) few → HasTrueLiteral (literals trail) many ⊎ HasTwoNotFalse (literals trail) many
+    settled_more few many more (inl t) = inl (t.0, more t.0 t.1, t.2)
+    settled_more few many more (inr two) = inr (record {
+      one = two.one;
+      other = two.other;
+      two = two.two;
+      one_in = more two.one two.one_in;
+      other_in = more two.other two.other_in;
+      one_not_false = two.one_not_false;
+      other_not_false = two.other_not_false;
+    })
+
+    -- of a clause that watches two literals
+    settled_watched : checked ≡ length clauses → ((e : ℕ) → heads e ≡ length trail) → (c : ℕ) → c < length clauses → 1 ≤ (lit_at lits (2 * c)).var → HasTrueLiteral (literals trail) (clause_at clauses c) ⊎ HasTwoNotFalse (literals trail) (clause_at clauses c)
+    settled_watched all seen c there some_e =
         let e = 2 * c in
         let f = 2 * c + 1 in
         let first : e / 2 ≡ c = omega arith in
         let second : f / 2 ≡ c = omega arith in
         let p : ArePartners e f = record { clause = omega (arith, first, second); apart = λ same. omega (arith, same) } in
-        let lg_e : 2 ≤ length (clause_at clauses (e / 2)) = subst (λ (n : ℕ). 2 ≤ length (clause_at clauses n)) (sym first) lg in
-        let lg_f : 2 ≤ length (clause_at clauses (f / 2)) = subst (λ (n : ℕ). 2 ≤ length (clause_at clauses n)) (sym second) lg in
+        let in_e : e < length lits = entry_in e (omega (arith, first, there)) in
+        let in_f : f < length lits = entry_in f (omega (arith, second, there)) in
+        let some_f : 1 ≤ (lit_at lits f).var = w.both e f p in_e some_e in
         let a = lit_at lits e in
         let b = lit_at lits f in
-        let pair_a : IsPair (clause_at clauses c) a b = subst (λ (n : ℕ). IsPair (clause_at clauses n) a b) first (w.pairs e f p (entry_in e (omega (arith, first, there))) lg_e) in
-        let pair_b : IsPair (clause_at clauses c) b a = subst (λ (n : ℕ). IsPair (clause_at clauses n) b a) second (w.pairs f e (turned e f p) (entry_in f (omega (arith, second, there))) lg_f) in
+        let pair_a : IsPair (clause_at clauses c) a b = subst (λ (n : ℕ). IsPair (clause_at clauses n) a b) first (w.pairs e f p in_e some_e) in
+        let pair_b : IsPair (clause_at clauses c) b a = subst (λ (n : ℕ). IsPair (clause_at clauses n) b a) second (w.pairs f e (turned e f p) in_f some_f) in
         ⊎_elim
         (λ (fa : is_false (literals trail) a ≡ true).
         inl (subst (λ (n : ℕ). HasTrueLiteral (literals trail) (clause_at clauses n)) first
-        (guard_holds (heads e) a (clause_at clauses (e / 2)) (seen e) (w.guarded e (omega (arith, first, there, all)) lg_e) (Contains-from_among (literals trail) (negation a) fa))))
+        (guard_holds (heads e) a (clause_at clauses (e / 2)) (seen e) (w.guarded e (omega (arith, first, there, all)) some_e) (Contains-from_among (literals trail) (negation a) fa))))
         (λ (oa : is_false (literals trail) a ≡ false). ⊎_elim
         (λ (fb : is_false (literals trail) b ≡ true).
         inl (subst (λ (n : ℕ). HasTrueLiteral (literals trail) (clause_at clauses n)) second
-        (guard_holds (heads f) b (clause_at clauses (f / 2)) (seen f) (w.guarded f (omega (arith, second, there, all)) lg_f) (Contains-from_among (literals trail) (negation b) fb))))
+        (guard_holds (heads f) b (clause_at clauses (f / 2)) (seen f) (w.guarded f (omega (arith, second, there, all)) some_f) (Contains-from_among (literals trail) (negation b) fb))))
         (λ (ob : is_false (literals trail) b ≡ false).
         inr (record {
           one = a;
@@ -312,8 +342,25 @@ module _ (clauses : List (List Literal)) (lits : List Literal) (trail : List Ent
           other_not_false = not_among (literals trail) (negation b) ob;
         }))
         (cases_Bool (is_false (literals trail) b)))
-        (cases_Bool (is_false (literals trail) a)))
+        (cases_Bool (is_false (literals trail) a))
+
+    settled_within : checked ≡ length clauses → ((e : ℕ) → heads e ≡ length trail) → (left c : ℕ) → length clauses ≤ left + c → c < length clauses → HasTrueLiteral (literals trail) (clause_at clauses c) ⊎ HasTwoNotFalse (literals trail) (clause_at clauses c)
+    settled_within all seen zero c most there = absurd (omega (arith, most, there))
+    settled_within all seen (suc left) c most there = ⊎_elim
+        (λ (small : length (clause_at clauses c) < 2).
+        let one = w.short c (omega (arith, there, all)) small in
+        let l = get_or (clause_at clauses c) 0 no_lit in
+        inl (l, first_in (clause_at clauses c) one.0, is_true_by trail l 0 (one.1 0 no_lit one.0)))
+        (λ (lg : 2 ≤ length (clause_at clauses c)). ⊎_elim
+        (λ (none : (lit_at lits (2 * c)).var ≡ 0).
+        let h = w.out c there lg none in
+        settled_more (clause_at clauses h.later) (clause_at clauses c) h.within (settled_within all seen left h.later (omega (arith, most, h.behind)) h.there))
+        (λ (some : (lit_at lits (2 * c)).var ≢ 0). settled_watched all seen c there (omega (arith, some)))
+        (cases_eq (lit_at lits (2 * c)).var 0))
         (cases_lt (length (clause_at clauses c)) 2)
+
+    settled_at : checked ≡ length clauses → ((e : ℕ) → heads e ≡ length trail) → (c : ℕ) → c < length clauses → HasTrueLiteral (literals trail) (clause_at clauses c) ⊎ HasTwoNotFalse (literals trail) (clause_at clauses c)
+    settled_at all seen c there = settled_within all seen (length clauses) c (omega arith) there
 
     pub at_end : checked ≡ length clauses → ((e : ℕ) → heads e ≡ length trail) → IsAtEnd (literals trail) clauses
     at_end all seen = record {
@@ -321,6 +368,37 @@ module _ (clauses : List (List Literal)) (lits : List Literal) (trail : List Ent
       settled = λ k d h.
           subst (λ (clause : List Literal). HasTrueLiteral (literals trail) clause ⊎ HasTwoNotFalse (literals trail) clause) (get_or_default clauses k [] d h) (settled_at all seen k h);
     }
+
+  -- ---- a clause is no more looked at
+
+  pub watched_out : (now : List Literal) (c : ℕ) → length now ≡ length lits → ((x : ℕ) → x / 2 ≡ c → (lit_at now x).var ≡ 0) → ((x : ℕ) → x / 2 ≢ c → lit_at now x ≡ lit_at lits x) → HasLater clauses c → (then : ℕ → ℕ) → ((x : ℕ) → x / 2 ≢ c → then x ≡ heads x) → AreWatched clauses now trail checked then
+  watched_out now c size gone others later then stays =
+      let other : (x : ℕ) → 1 ≤ (lit_at now x).var → x / 2 ≢ c = λ x some same. absurd (omega (arith, some, gone x same)) in
+      let was : (x : ℕ) → 1 ≤ (lit_at now x).var → 1 ≤ (lit_at lits x).var = λ x some. subst (λ (l : Literal). 1 ≤ l.var) (others x (other x some)) some in
+      record {
+        entries = size ∙ w.entries;
+        long = λ x lt some. w.long x (omega (arith, lt, size)) (was x some);
+        both = λ x y p lt some.
+            let ne : y / 2 ≢ c = λ same. other x some (p.clause ∙ same) in
+            subst (λ (l : Literal). 1 ≤ l.var) (sym (others y ne)) (w.both x y p (omega (arith, lt, size)) (was x some));
+        pairs = λ x y p lt some.
+            let ne : y / 2 ≢ c = λ same. other x some (p.clause ∙ same) in
+            pair_at (clause_at clauses (x / 2)) (lit_at now x) (lit_at lits x) (lit_at now y) (lit_at lits y) (others x (other x some)) (others y ne) (w.pairs x y p (omega (arith, lt, size)) (was x some));
+        guarded = λ x lt some.
+            subst (λ (n : ℕ). Guards trail n (lit_at now x) (clause_at clauses (x / 2))) (sym (stays x (other x some)))
+            (subst (λ (l : Literal). Guards trail (heads x) l (clause_at clauses (x / 2))) (sym (others x (other x some))) (w.guarded x lt (was x some)));
+        fresh = λ x y p lt le some.
+            let ne : y / 2 ≢ c = λ same. other x some (p.clause ∙ same) in
+            rw (stays x (other x some), others x (other x some), others y ne) (w.fresh x y p (omega (arith, lt, size)) le (was x some));
+        out = λ d lt lg none. ⊎_elim
+            (λ (same : d ≡ c). subst (HasLater clauses) (sym same) later)
+            (λ (ne : d ≢ c).
+            let apart : (2 * d) / 2 ≢ c = λ same. absurd (omega (arith, same, ne)) in
+            w.out d lt lg (ap (λ (l : Literal). l.var) (sym (others (2 * d) apart)) ∙ none))
+            (cases_eq d c);
+        short = w.short;
+        unchecked = w.unchecked;
+      }
 
   -- ---- literals are taken back
 
@@ -362,7 +440,9 @@ module _ (clauses : List (List Literal)) (lits : List Literal) (trail : List Ent
       record {
         entries = w.entries;
         long = w.long;
+        both = w.both;
         pairs = w.pairs;
+        out = w.out;
         guarded = λ e lt lg.
             let a = lit_at lits e in
             let clause = clause_at clauses (e / 2) in

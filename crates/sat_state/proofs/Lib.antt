@@ -17,3 +17,4 @@ pub mod Entries
 pub mod Added
 pub mod Finished
 pub mod RowsKept
+pub mod Retired

@@ -1,6 +1,6 @@
 -- How many entries a literal has: no more than there are clauses with it.
 use Rattle.std.proofs.Common.{◌≡◌, ◌≢◌, ℕ, suc, ◌+◌, ◌*◌, ◌/◌, ◌<◌, ◌≤◌, Bool, true, false, ◌||◌, cond, eqb, List, [], ◌∷◌, ◌++◌, length, set, Contains, refl, sym, ap, ◌∙◌, subst, inl, inr, ⊎_elim, arith}
-use Rattle.std.proofs.lemmas.Bool.{cases_eq, cases_lt, ne_eqb, eq-eqb}
+use Rattle.std.proofs.lemmas.Bool.{cases_eq, ne_eqb, eq-eqb}
 use Rattle.std.proofs.lemmas.List.Sums.{sum_by-cons, sum_by-set, sum_by_push}
 use Rattle.cnf_core.specs.Literal.{Literal, code_of}
 use Rattle.cnf_core.proofs.Members.{Contains-cases, none_in_nil}
@@ -105,23 +105,21 @@ links_below clauses lits trail checked heads w code some = pairs_below clauses l
         let at_f : f / 2 ≡ k = omega arith in
         let in_e : e < length lits = omega (arith, lt, w.entries) in
         let in_f : f < length lits = omega (arith, lt, w.entries) in
-        ⊎_elim
-        (λ (small : length (clause_at clauses k) < 2).
-        let none : (x : ℕ) → x < length lits → x / 2 ≡ k → (lit_at lits x).var ≡ 0
-        = λ x there at. ⊎_elim
-        (λ (z : (lit_at lits x).var ≡ 0). z)
-        (λ (nz : (lit_at lits x).var ≢ 0). absurd (omega (arith, subst (λ (n : ℕ). 2 ≤ length (clause_at clauses n)) at (w.long x there (omega (arith, nz))), small)))
-        (cases_eq (lit_at lits x).var 0) in
-        omega (arith, weight_other code (lit_at lits e) (no_variable (lit_at lits e) code (none e in_e at_e) some), weight_other code (lit_at lits f) (no_variable (lit_at lits f) code (none f in_f at_f) some)))
-        (λ (long : 2 ≤ length (clause_at clauses k)).
         let p : ArePartners e f = record { clause = at_e ∙ sym at_f; apart = λ same. absurd (omega (arith, same)) } in
         let q : ArePartners f e = record { clause = at_f ∙ sym at_e; apart = λ same. absurd (omega (arith, same)) } in
-        let long_e = subst (λ (n : ℕ). 2 ≤ length (clause_at clauses n)) (sym at_e) long in
-        let long_f = subst (λ (n : ℕ). 2 ≤ length (clause_at clauses n)) (sym at_f) long in
+        ⊎_elim
+        (λ (none : (lit_at lits e).var ≡ 0).
+        let also : (lit_at lits f).var ≡ 0 = ⊎_elim
+        (λ (z : (lit_at lits f).var ≡ 0). z)
+        (λ (nz : (lit_at lits f).var ≢ 0). absurd (omega (arith, none, w.both f e q in_f (omega (arith, nz)))))
+        (cases_eq (lit_at lits f).var 0) in
+        omega (arith, weight_other code (lit_at lits e) (no_variable (lit_at lits e) code none some), weight_other code (lit_at lits f) (no_variable (lit_at lits f) code also some)))
+        (λ (one : (lit_at lits e).var ≢ 0).
+        let some_e : 1 ≤ (lit_at lits e).var = omega (arith, one) in
         pair_below (clause_at clauses k) (lit_at lits e) (lit_at lits f) code
-        (subst (λ (n : ℕ). IsPair (clause_at clauses n) (lit_at lits e) (lit_at lits f)) at_e (w.pairs e f p in_e long_e))
-        (subst (λ (n : ℕ). IsPair (clause_at clauses n) (lit_at lits f) (lit_at lits e)) at_f (w.pairs f e q in_f long_f)))
-        (cases_lt (length (clause_at clauses k)) 2)
+        (subst (λ (n : ℕ). IsPair (clause_at clauses n) (lit_at lits e) (lit_at lits f)) at_e (w.pairs e f p in_e some_e))
+        (subst (λ (n : ℕ). IsPair (clause_at clauses n) (lit_at lits f) (lit_at lits e)) at_f (w.pairs f e q in_f (w.both e f p in_e some_e))))
+        (cases_eq (lit_at lits e).var 0)
 
 -- an entry that watched nothing watches a literal
 pub links_set : (lits : List Literal) (e : ℕ) (l : Literal) → e < length lits → lit_at lits e ≡ no_lit → 2 ≤ code_of l → links (set lits e l) (code_of l) ≡ links lits (code_of l) + 1

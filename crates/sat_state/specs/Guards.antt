@@ -45,14 +45,23 @@ pub record IsPair (clause : List Literal) (l other : Literal) : Type 0 where
   pub in_clause : Contains clause l
   pub two : l ≢ other
 
--- Each clause of two or more literals watches two of them; a watched literal of a clause that was looked at is guarded by the clause, and
--- one of another clause is fresh, as far as the lists of its entry were walked. A shorter clause that was looked at is true without
--- decisions.
+-- there is a later clause with no literal that this one hasn't
+pub record HasLater (clauses : List (List Literal)) (c : ℕ) : Type 0 where
+  pub later : ℕ
+  pub behind : c < later
+  pub there : later < length clauses
+  pub within : (l : Literal) → Contains (clause_at clauses later) l → Contains (clause_at clauses c) l
+
+-- Each clause of two or more literals watches two of them, or none where a later clause has no other literals; a watched literal of a
+-- clause that was looked at is guarded by the clause, and one of another clause is fresh, as far as the lists of its entry were walked. A
+-- shorter clause that was looked at is true without decisions.
 pub record AreWatched (clauses : List (List Literal)) (lits : List Literal) (trail : List Entry) (checked : ℕ) (heads : ℕ → ℕ) : Type 0 where
   pub entries : length lits ≡ 2 * length clauses
   pub long : (e : ℕ) → e < length lits → 1 ≤ (lit_at lits e).var → 2 ≤ length (clause_at clauses (e / 2))
-  pub pairs : (e f : ℕ) → ArePartners e f → e < length lits → 2 ≤ length (clause_at clauses (e / 2)) → IsPair (clause_at clauses (e / 2)) (lit_at lits e) (lit_at lits f)
-  pub guarded : (e : ℕ) → e / 2 < checked → 2 ≤ length (clause_at clauses (e / 2)) → Guards trail (heads e) (lit_at lits e) (clause_at clauses (e / 2))
-  pub fresh : (e f : ℕ) → ArePartners e f → e < length lits → checked ≤ e / 2 → 2 ≤ length (clause_at clauses (e / 2)) → IsFresh trail (heads e) (clause_at clauses (e / 2)) (lit_at lits e) (lit_at lits f)
+  pub both : (e f : ℕ) → ArePartners e f → e < length lits → 1 ≤ (lit_at lits e).var → 1 ≤ (lit_at lits f).var
+  pub pairs : (e f : ℕ) → ArePartners e f → e < length lits → 1 ≤ (lit_at lits e).var → IsPair (clause_at clauses (e / 2)) (lit_at lits e) (lit_at lits f)
+  pub guarded : (e : ℕ) → e / 2 < checked → 1 ≤ (lit_at lits e).var → Guards trail (heads e) (lit_at lits e) (clause_at clauses (e / 2))
+  pub fresh : (e f : ℕ) → ArePartners e f → e < length lits → checked ≤ e / 2 → 1 ≤ (lit_at lits e).var → IsFresh trail (heads e) (clause_at clauses (e / 2)) (lit_at lits e) (lit_at lits f)
+  pub out : (c : ℕ) → c < length clauses → 2 ≤ length (clause_at clauses c) → (lit_at lits (2 * c)).var ≡ 0 → HasLater clauses c
   pub short : (c : ℕ) → c < checked → length (clause_at clauses c) < 2 → (0 < length (clause_at clauses c)) × All (λ l. IsTrueBy trail l 0) (clause_at clauses c)
   pub unchecked : (c : ℕ) → c < length clauses → checked ≤ c → length (clause_at clauses c) < 2 → level_of trail ≡ 0

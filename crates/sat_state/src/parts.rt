@@ -1,19 +1,19 @@
 //! The parts of a state, and propagation over them.
 
-ghost use Rattle.std.specs.Prelude.{◌≡◌, ℕ, ◌+◌, ◌*◌, ◌^◌, ◌<◌, ◌≤◌, ◌⊎◌, [], ◌∷◌, ◌++◌, length, take, max, None, Some, false, IsTrue, Contains, IsNone, IfSome, IfOk, OnOk, OnErr, filter, nat_le, ◌/◌, ◌≢◌, if◌then◌else◌};
+ghost use Rattle.std.specs.Prelude.{◌≡◌, ℕ, ◌+◌, ◌*◌, ◌^◌, ◌<◌, ◌≤◌, ◌⊎◌, [], ◌∷◌, ◌++◌, length, take, max, None, Some, false, IsTrue, All, Contains, IsNone, IfSome, IfOk, OnOk, OnErr, filter, nat_le, ◌/◌, ◌≢◌, if◌then◌else◌};
 ghost use Rattle.cnf_core.specs.Literal.{VariablesUpTo, negation};
 ghost use Rattle.cnf_core.specs.Steps.{IsAtEnd, HasTrueLiteral, HasTwoNotFalse};
 ghost use Rattle.sat_state.specs.Trail.{literals, trail_value, next_level, level_of, HasReason, IsFalsified, NamesFalsified, Gives, IsOpenBelow};
 ghost use Rattle.sat_state.specs.Stored.{clause_at};
 ghost use Rattle.sat_state.specs.Watching.{IsNext, IsNextEntry};
 ghost use Rattle.sat_state.specs.View.{AreTwoOf, IsGuarded};
-ghost use Rattle.sat_state.specs.Guards.{ArePartners, IsTrueBy, Guards};
+ghost use Rattle.sat_state.specs.Guards.{is_false, ArePartners, IsTrueBy, Guards};
 ghost use Rattle.sat_state.specs.Joined.{AreJoined, GoesOn, IsAllSeen, IsWalking, place_in_queue};
 
 use crate::clauses::{Clauses, first_open};
 use crate::short::ShortLit;
 use crate::values::Values;
-use crate::watches::Watches;
+use crate::watches::{Watches, code};
 use cnf_core::Lit;
 use ep_base::Memory;
 use std::alloc::Global;
@@ -50,6 +50,21 @@ fn partner(entry: usize) -> usize
     ensures { ArePartners entry result }
 {
     if entry % 2 == 0 { entry + 1 } else { entry - 1 }
+}
+
+// Whether these literals are all among others, of which they come in the same order.
+fn are_within(few: &[ShortLit], many: &[ShortLit]) -> bool
+    ensures { IsTrue result → All (Contains many.now) few.now }
+{
+    let mut place = 0usize;
+    for lit in many {
+        if place < few.len() {
+            if few[place].code() == lit.code() {
+                place += 1;
+            }
+        }
+    }
+    place == few.len()
 }
 
 impl Parts {
@@ -337,6 +352,11 @@ impl Parts {
         if lits.len() < 2 {
             return None;
         }
+        // That there are so many entries shows that their numbers fit.
+        let _entries = self.watches.len();
+        if !self.watches.is_linked(2 * number) {
+            return Some(self.pair_of(number));
+        }
         let pair = self.watches.of_clause(number);
         if let Some(first) = self.guard(number, pair.0) {
             return Some((pair.0, first));
@@ -345,6 +365,44 @@ impl Parts {
             return Some((second, pair.1));
         }
         Some(pair)
+    }
+
+    // Two literals of a clause that watches none: a false one and one that guards it, or else two that aren't false, as far as
+    // there are any.
+    fn pair_of(&self, number: usize) -> (Lit, Lit)
+        requires joined { AreJoined self.now }
+        requires there { number < length self.now.clauses.lists }
+        requires long { 2 ≤ length (clause_at self.now.clauses.lists number) }
+        ensures two { AreTwoOf (clause_at self.now.clauses.lists number) result.0 result.1 }
+        ensures one { IsAllSeen self.now → IsGuarded self.now.assigned.trail result.0 result.1 }
+        ensures other { IsAllSeen self.now → IsGuarded self.now.assigned.trail result.1 result.0 }
+    {
+        let lits = self.clauses.lits(number);
+        for found in lits {
+            let lit = found.lit();
+            if let Some(guard) = self.guard(number, lit) {
+                return (lit, guard);
+            }
+        }
+        self.open_pair(number)
+    }
+
+    // Two literals of a clause that aren't false, or where there are none, its first two.
+    fn open_pair(&self, number: usize) -> (Lit, Lit)
+        requires joined { AreJoined self.now }
+        requires there { number < length self.now.clauses.lists }
+        requires long { 2 ≤ length (clause_at self.now.clauses.lists number) }
+        ensures two { AreTwoOf (clause_at self.now.clauses.lists number) result.0 result.1 }
+        ensures open { HasTwoNotFalse (literals self.now.assigned.trail) (clause_at self.now.clauses.lists number)
+            → (is_false (literals self.now.assigned.trail) result.0 ≡ false) × (is_false (literals self.now.assigned.trail) result.1 ≡ false) }
+    {
+        let lits = self.clauses.clause(number).lits();
+        if let Some(one) = first_open(&self.assigned, lits, 0) {
+            if let Some(other) = first_open(&self.assigned, lits, code(one)) {
+                return (one, other);
+            }
+        }
+        (lits[0], lits[1])
     }
 
     // Where a literal of a clause is false, another one of the clause that was true at no higher level, if there is one.
@@ -381,6 +439,31 @@ impl Parts {
             return false;
         }
         self.assigned.level_of(lit.var()) <= level
+    }
+
+    /// Lets a clause be looked at no more where a later one has no literal that it hasn't: where that one has a true literal or two
+    /// that aren't false, so has this one. Answers whether it is looked at no more.
+    pub fn retire(&mut self, number: usize, later: usize) -> bool
+        requires joined { AreJoined self.old }
+        ensures joined { AreJoined self.new }
+        ensures clauses { self.new.clauses ≡ self.old.clauses }
+        ensures assigned { self.new.assigned ≡ self.old.assigned }
+        ensures queue { self.new.queue ≡ self.old.queue }
+    {
+        if number >= later || later >= self.clauses.len() {
+            return false;
+        }
+        if !are_within(self.clauses.lits(later), self.clauses.lits(number)) {
+            return false;
+        }
+        // That there are so many entries shows that their numbers fit.
+        let _entries = self.watches.len();
+        let entry = 2 * number;
+        if self.watches.is_linked(entry) {
+            self.watches.unlink(entry);
+            self.watches.unlink(entry + 1);
+        }
+        true
     }
 
     /// Makes a literal true without a reason, which opens a level.

@@ -147,6 +147,15 @@ impl State {
         self.parts.clauses.touch(number as usize);
     }
 
+    /// Lets propagation look no more at a clause, if a later one has no literal that it hasn't, since what it forces the later one
+    /// forces. Answers whether it is so. Nothing that is seen changes. Reads both clauses, and looks through the lists of the two
+    /// literals that the clause watches from their ends back to it.
+    pub fn retire(&mut self, number: u64, later: u64) -> bool
+        ensures { self.new ≡ self.old }
+    {
+        self.parts.retire(number as usize, later as usize)
+    }
+
     /// The value of a variable, or none where it has none or isn't known.
     pub fn value(&self, var: u64) -> Option<bool>
         ensures value { result ≡ trail_value (literals self.now.trail) var }

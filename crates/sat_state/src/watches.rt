@@ -183,6 +183,47 @@ impl Watches {
         (self.lit(entry).lit(), self.lit(entry + 1).lit())
     }
 
+    /// Whether an entry watches a literal.
+    pub fn is_linked(&self, entry: usize) -> bool
+        requires { entry < length self.now.lits }
+        ensures some { IsTrue result → 1 ≤ (lit_at self.now.lits entry).var }
+        ensures none { result ≡ false → (lit_at self.now.lits entry).var ≡ 0 }
+    {
+        self.names[entry] >= 4
+    }
+
+    // Whether an entry stands in the far part of its list.
+    fn is_far(&self, entry: usize) -> bool
+        requires { entry < length self.now.lits }
+        ensures { result ≡ far_at self.now.fars entry }
+    {
+        self.names[entry] % 2 == 1
+    }
+
+    /// Takes an entry out of its list, where it is looked for from the end of its part back. Ends a walk.
+    pub fn unlink(&mut self, entry: usize)
+        requires there { entry < length self.old.lits }
+        requires some { 1 ≤ (lit_at self.old.lits entry).var }
+        requires known { code_of (lit_at self.old.lits entry) < self.old.lists }
+        ensures lits { self.new.lits ≡ set self.old.lits entry no_lit }
+        ensures fars { self.new.fars ≡ set self.old.fars entry false }
+        ensures stands { (w : Watched) → IsInSomeList self.new.stands w → IsInSomeList self.old.stands w }
+        ensures kept { (code : ℕ) → (listed_at self.new.stands code).room ≡ (listed_at self.old.stands code).room }
+        ensures lists { self.new.lists ≡ self.old.lists }
+    {
+        let lit = self.lit(entry).lit();
+        let far = self.is_far(entry);
+        self.start(lit, far);
+        'look: while let Some((found, _, _)) = self.current() {
+            if found == entry {
+                self.take();
+                return;
+            }
+            self.keep();
+        }
+        unreachable!()
+    }
+
     /// Puts an entry that watches nothing into a part of the list of a literal, with whether its clause is known to have two literals
     /// and some literal of it. Takes no memory.
     pub fn link(&mut self, entry: usize, pair: bool, lit: Lit, blocker: ShortLit, far: bool)

@@ -8,7 +8,7 @@ use Rattle.sat_state.specs.Guards.{is_false}
 use Rattle.sat_state.specs.Listed.{Listed}
 use Rattle.sat_state.specs.Joined.{heads_of}
 use Rattle.sat_state.proofs.Going.{joined_low, code_some, code_two}
-use Rattle.sat_state.proofs.Added.{some_high, short_bottom, ArePicked, picked, IsNew, new_short, new_long, same_before, same_before_two, tier_before, tier_before_two, joined_added, added_first, added_second, both_of}
+use Rattle.sat_state.proofs.Added.{picked_var, some_high, short_bottom, ArePicked, picked, IsNew, new_short, new_long, same_before, same_before_two, tier_before, tier_before_two, joined_added, added_first, added_second, both_of}
 use Rattle.sat_state.proofs.parts.Parts.append.Goals as goal
 
 pub choose-one-requires-clause-some : goal.choose-one-requires-clause-some
@@ -69,7 +69,8 @@ returns-clause-joined c =
     (λ k d h. code_some (Rattle.std.proofs.Common.get_or found k d) (c.lits-lits.ensures.variables k d h).0)
     c.choose-one.ensures.high c.choose-one.ensures.others c.choose-other.ensures.high others_b in
     let fresh : IsNew trail heads n clause (set (set (lits ++ no_lit ∷ no_lit ∷ []) (2 * n) a) (2 * n + 1) b)
-    = new_long trail heads n clause lits a b entries long (subst (λ (ls : List Literal). ArePicked trail ls a b) value pick) in
+    = new_long trail heads n clause lits a b entries long (picked_var clause a is_clause.variables (subst (λ (ls : List Literal). Contains ls a) value c.choose-one.ensures.in_clause))
+    (picked_var clause b is_clause.variables (subst (λ (ls : List Literal). Contains ls b) value c.choose-other.ensures.in_clause)) (subst (λ (ls : List Literal). ArePicked trail ls a b) value pick) in
     let is_lits : c.link-2.new.self.lits ≡ set (set (lits ++ no_lit ∷ no_lit ∷ []) (2 * n) a) (2 * n + 1) b
     = c.link-2.ensures.lits ∙ ap (λ (ls : List Literal). set ls (2 * c.len-entry.result + 1) b) (c.link.ensures.lits ∙ ap (λ (ls : List Literal). set ls (2 * c.len-entry.result) a) c.push-2.ensures.lits)
     ∙ ap (λ (k : ℕ). set (set (lits ++ no_lit ∷ no_lit ∷ []) (2 * k) a) (2 * k + 1) b) c.len-entry.ensures in
@@ -115,7 +116,10 @@ link-requires-clause-room c =
     = picked old.assigned.trail found a b (joined_low old c.requires.joined) c.choose-one.ensures.in_clause c.choose-other.ensures.in_clause (λ same. c.choose-other.ensures.other (same ∙ sym c.code.ensures.value))
     (λ k d h. code_some (Rattle.std.proofs.Common.get_or found k d) (c.lits-lits.ensures.variables k d h).0)
     c.choose-one.ensures.high c.choose-one.ensures.others c.choose-other.ensures.high others_b in
-    let first = added_first old c.args.clause a b c.requires.joined long (subst (λ (ls : List Literal). ArePicked old.assigned.trail ls a b) value pick) (subst (λ (k : ℕ). 2 ≤ k) c.code.ensures.value c.code.ensures.some) in
+    let variables = subst (λ (ls : List Literal). All (λ l. Rattle.cnf_core.specs.Literal.IsVariable l.var) ls) value c.lits-lits.ensures.variables in
+    let some_a = picked_var c.args.clause a variables (subst (λ (ls : List Literal). Contains ls a) value c.choose-one.ensures.in_clause) in
+    let some_b = picked_var c.args.clause b variables (subst (λ (ls : List Literal). Contains ls b) value c.choose-other.ensures.in_clause) in
+    let first = added_first old c.args.clause a b c.requires.joined long some_a some_b (subst (λ (ls : List Literal). ArePicked old.assigned.trail ls a b) value pick) (subst (λ (k : ℕ). 2 ≤ k) c.code.ensures.value c.code.ensures.some) in
     omega (arith, first, ap (λ (ls : List Literal). links ls (code_of a)) c.push-2.ensures.lits, c.requires.list_room (code_of a), ap (λ (ls : List Listed). (listed_at ls (code_of a)).room) c.push-2.ensures.stands)
 
 pub link-requires-2-clause-room : goal.link-requires-2-clause-room
@@ -137,7 +141,9 @@ link-requires-2-clause-room c =
     let variables = subst (λ (ls : List Literal). All (λ l. Rattle.cnf_core.specs.Literal.IsVariable l.var) ls) value c.lits-lits.ensures.variables in
     let some : 2 ≤ code_of b
     = code_two b (Rattle.std.proofs.lemmas.List.Elements.All-contains (λ (l : Literal). Rattle.cnf_core.specs.Literal.IsVariable l.var) c.args.clause b variables (subst (λ (ls : List Literal). Contains ls b) value c.choose-other.ensures.in_clause)).0 in
-    let second = added_second old c.args.clause a b c.requires.joined long (subst (λ (ls : List Literal). ArePicked old.assigned.trail ls a b) value pick) some in
+    let some_a = picked_var c.args.clause a variables (subst (λ (ls : List Literal). Contains ls a) value c.choose-one.ensures.in_clause) in
+    let some_b = picked_var c.args.clause b variables (subst (λ (ls : List Literal). Contains ls b) value c.choose-other.ensures.in_clause) in
+    let second = added_second old c.args.clause a b c.requires.joined long some_a some_b (subst (λ (ls : List Literal). ArePicked old.assigned.trail ls a b) value pick) some in
     let lits : c.link.new.self.lits ≡ set (old.watches.lits ++ no_lit ∷ no_lit ∷ []) (2 * n) a
     = c.link.ensures.lits ∙ ap (λ (ls : List Literal). set ls (2 * c.len-entry.result) a) c.push-2.ensures.lits ∙ ap (λ (k : ℕ). set (old.watches.lits ++ no_lit ∷ no_lit ∷ []) (2 * k) a) c.len-entry.ensures in
     omega (arith, second, ap (λ (ls : List Literal). links ls (code_of b)) lits, c.requires.list_room (code_of b), c.link.ensures.kept (code_of b), ap (λ (ls : List Listed). (listed_at ls (code_of b)).room) c.push-2.ensures.stands)

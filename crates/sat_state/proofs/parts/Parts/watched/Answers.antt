@@ -1,33 +1,39 @@
-use Rattle.std.proofs.Common.{◌≤◌, Contains, length, is_some, sym, ap, subst, arith}
+use Rattle.std.proofs.Common.{Contains, length, is_some, sym, ap, subst, arith}
 use Rattle.cnf_core.specs.Literal.{Literal}
 use Rattle.sat_state.specs.Trail.{literals}
 use Rattle.sat_state.specs.Stored.{clause_at}
 use Rattle.sat_state.specs.Guards.{Guards}
-use Rattle.sat_state.proofs.Going.{joined_consistent, pair_there, first_pair, second_pair, first_var, second_var, first_guard, second_guard, guarded_open}
+use Rattle.sat_state.proofs.Going.{joined_consistent, pair_there, first_pair, second_pair, second_var, first_guard, second_guard, guarded_open}
 use Rattle.sat_state.proofs.parts.Parts.watched.Goals as goal
+
+pub is_linked-requires : goal.is_linked-requires
+is_linked-requires c = omega (arith, c.requires.there, c.requires.joined.watched.entries)
+
+pub pair_of-requires-clause-long : goal.pair_of-requires-clause-long
+pair_of-requires-clause-long c = omega (arith, c.if-lits-lt2.false, ap length c.lits-lits.ensures)
 
 pub of_clause-pair-requires-clause-there : goal.of_clause-pair-requires-clause-there
 of_clause-pair-requires-clause-there c =
-    let lg : 2 ≤ length (clause_at c.args.self.now.clauses.lists c.args.number) = omega (arith, c.if-lits-lt2.false, ap length c.lits-lits.ensures) in
-    pair_there c.args.self.now c.requires.joined c.args.number c.requires.there lg
+    let some = c.is_linked.ensures.some c.if-not-is_linked.false in
+    pair_there c.args.self.now c.requires.joined c.args.number c.requires.there some
 
 pub of_clause-pair-requires-clause-one : goal.of_clause-pair-requires-clause-one
 of_clause-pair-requires-clause-one c =
-    let lg : 2 ≤ length (clause_at c.args.self.now.clauses.lists c.args.number) = omega (arith, c.if-lits-lt2.false, ap length c.lits-lits.ensures) in
-    first_var c.args.self.now c.requires.joined c.args.number c.requires.there lg
+    let some = c.is_linked.ensures.some c.if-not-is_linked.false in
+    some
 
 pub of_clause-pair-requires-clause-other : goal.of_clause-pair-requires-clause-other
 of_clause-pair-requires-clause-other c =
-    let lg : 2 ≤ length (clause_at c.args.self.now.clauses.lists c.args.number) = omega (arith, c.if-lits-lt2.false, ap length c.lits-lits.ensures) in
-    second_var c.args.self.now c.requires.joined c.args.number c.requires.there lg
+    let some = c.is_linked.ensures.some c.if-not-is_linked.false in
+    second_var c.args.self.now c.requires.joined c.args.number c.requires.there some
 
 -- the first one is false
 
 pub returns-in-Some-clause-two : goal.returns-in-Some-clause-two
 returns-in-Some-clause-two c =
     let p = c.args.self.now in
-    let lg : 2 ≤ length (clause_at p.clauses.lists c.args.number) = omega (arith, c.if-lits-lt2.false, ap length c.lits-lits.ensures) in
-    let a = first_pair p c.requires.joined c.args.number c.requires.there lg in
+    let some = c.is_linked.ensures.some c.if-not-is_linked.false in
+    let a = first_pair p c.requires.joined c.args.number c.requires.there some in
     let one = c.of_clause-pair.result.0 in
     let one_in = subst (λ (l : Literal). Contains (clause_at p.clauses.lists c.args.number) l) (sym c.of_clause-pair.ensures.one) a.in_clause in
     record {
@@ -49,8 +55,8 @@ returns-in-Some-clause-other c = λ seen.
 pub returns-in-Some-guard-clause-two : goal.returns-in-Some-guard-clause-two
 returns-in-Some-guard-clause-two c =
     let p = c.args.self.now in
-    let lg : 2 ≤ length (clause_at p.clauses.lists c.args.number) = omega (arith, c.if-lits-lt2.false, ap length c.lits-lits.ensures) in
-    let b = second_pair p c.requires.joined c.args.number c.requires.there lg in
+    let some = c.is_linked.ensures.some c.if-not-is_linked.false in
+    let b = second_pair p c.requires.joined c.args.number c.requires.there some in
     let other = c.of_clause-pair.result.1 in
     let other_in = subst (λ (l : Literal). Contains (clause_at p.clauses.lists c.args.number) l) (sym c.of_clause-pair.ensures.other) b.in_clause in
     record {
@@ -71,21 +77,21 @@ returns-in-Some-guard-clause-other c = λ seen. c.in-Some-guard.ensures.guards
 
 pub returns-clause-two : goal.returns-clause-two
 returns-clause-two c =
-    let lg : 2 ≤ length (clause_at c.args.self.now.clauses.lists c.args.number) = omega (arith, c.if-lits-lt2.false, ap length c.lits-lits.ensures) in
-    let a = first_pair c.args.self.now c.requires.joined c.args.number c.requires.there lg in
-    let b = second_pair c.args.self.now c.requires.joined c.args.number c.requires.there lg in
+    let some = c.is_linked.ensures.some c.if-not-is_linked.false in
+    let a = first_pair c.args.self.now c.requires.joined c.args.number c.requires.there some in
+    let b = second_pair c.args.self.now c.requires.joined c.args.number c.requires.there some in
     rw (c.of_clause-pair.ensures.one, c.of_clause-pair.ensures.other) (record { one_in = a.in_clause; other_in = b.in_clause; two = a.two })
 
 pub returns-clause-one : goal.returns-clause-one
 returns-clause-one c = λ seen.
     let p = c.args.self.now in
-    let lg : 2 ≤ length (clause_at p.clauses.lists c.args.number) = omega (arith, c.if-lits-lt2.false, ap length c.lits-lits.ensures) in
-    let guards = subst (λ (l : Literal). Guards p.assigned.trail (length p.assigned.trail) l (clause_at p.clauses.lists c.args.number)) (sym c.of_clause-pair.ensures.one) (first_guard p c.requires.joined c.args.number c.requires.there lg seen) in
+    let some = c.is_linked.ensures.some c.if-not-is_linked.false in
+    let guards = subst (λ (l : Literal). Guards p.assigned.trail (length p.assigned.trail) l (clause_at p.clauses.lists c.args.number)) (sym c.of_clause-pair.ensures.one) (first_guard p c.requires.joined c.args.number c.requires.there some seen) in
     guarded_open p.assigned.trail c.of_clause-pair.result.0 c.of_clause-pair.result.1 (c.guard.ensures.none (ap is_some c.in_default.is) guards)
 
 pub returns-clause-other : goal.returns-clause-other
 returns-clause-other c = λ seen.
     let p = c.args.self.now in
-    let lg : 2 ≤ length (clause_at p.clauses.lists c.args.number) = omega (arith, c.if-lits-lt2.false, ap length c.lits-lits.ensures) in
-    let guards = subst (λ (l : Literal). Guards p.assigned.trail (length p.assigned.trail) l (clause_at p.clauses.lists c.args.number)) (sym c.of_clause-pair.ensures.other) (second_guard p c.requires.joined c.args.number c.requires.there lg seen) in
+    let some = c.is_linked.ensures.some c.if-not-is_linked.false in
+    let guards = subst (λ (l : Literal). Guards p.assigned.trail (length p.assigned.trail) l (clause_at p.clauses.lists c.args.number)) (sym c.of_clause-pair.ensures.other) (second_guard p c.requires.joined c.args.number c.requires.there some seen) in
     guarded_open p.assigned.trail c.of_clause-pair.result.1 c.of_clause-pair.result.0 (c.guard-2.ensures.none (ap is_some c.in_default-guard.is) guards)
