@@ -97,6 +97,9 @@ pub fn give(
     let level = second_level(state, &clause);
     go_back(state, tools, level);
     let most = add(state, vars, clause)?;
+    if level > 0 {
+        tools.stay(log.events().len() as u64);
+    }
     log.given(copy)?;
     Ok(most)
 }

@@ -18,12 +18,13 @@ use sat_state::{ShortLit, State};
 use std::alloc::Global;
 
 /// What explaining a conflict writes on, kept from one conflict to the next: the variables that were met, marked and in a list,
-/// and how many of them were not yet looked at of the last level.
+/// how many of them were not yet looked at of the last level, and whether the conflict is explained by decisions alone.
 #[derive(Debug, Drop)]
 pub struct Analysis {
     marks: Marks,
     met: Met,
     last: u64,
+    by_decisions: bool,
     seen: Seen,
     places: Places,
 }
@@ -35,9 +36,20 @@ impl Analysis {
             marks: Marks::new(alloc),
             met: Met::new(alloc),
             last: 0,
+            by_decisions: false,
             seen: Seen::new(alloc),
             places: Places::new(alloc),
         }
+    }
+
+    /// Has conflicts explained by decisions alone, or else by fewer literals of the last level, of which one is left.
+    pub fn explain_by_decisions(&mut self, by_decisions: bool) {
+        self.by_decisions = by_decisions;
+    }
+
+    // Whether the last level may be cut at the literal that is looked at: it is the only one of the level that is left.
+    fn may_cut(&self) -> bool {
+        self.last == 1 && !self.by_decisions
     }
 
     /// Keeps in mind that so many literals of the trail are left.
@@ -138,14 +150,14 @@ struct Cut {
     decision: usize,
 }
 
-// The cut at a marked literal, if it is the last one that is marked of its level.
-fn cut_at(state: &State, marks: &Marks, place: usize, last: u64) -> Option<Cut>
+// The cut at a marked literal, where it may be cut, if it is the last one that is marked of its level.
+fn cut_at(state: &State, marks: &Marks, place: usize, may_cut: bool) -> Option<Cut>
     requires within { place < length (literals state.now.trail) }
     requires marked { (d : Literal) → is_marked marks.now (slice_index_or (literals state.now.trail) place d).var ≡ true }
     requires free { (d : Literal) → trail_value (take place (literals state.now.trail)) (slice_index_or (literals state.now.trail) place d).var ≡ None }
     ensures { IfSome result (λ cut. (cut.place ≡ place) × IsCut state.now.clauses (literals state.now.trail) marks.now place cut.decision) }
 {
-    if last != 1 {
+    if !may_cut {
         return None;
     }
     let decision = decision_below(state, marks, place)?;
@@ -182,7 +194,8 @@ fn resolve_level(
                     }));
                 }
                 Some(number) => {
-                    if let Some(cut) = cut_at(state, &analysis.marks, place, analysis.last) {
+                    let may_cut = analysis.may_cut();
+                    if let Some(cut) = cut_at(state, &analysis.marks, place, may_cut) {
                         return Ok(Some(cut));
                     }
                     analysis.met.pass();
@@ -235,7 +248,8 @@ fn keep_below(
         let lit = trail[place];
         if analysis.marks.is_marked(lit.var()) {
             analysis.met.pass();
-            match removal(state, &analysis.marks, &mut analysis.seen, lit) {
+            let all = analysis.by_decisions;
+            match removal(state, &analysis.marks, &mut analysis.seen, lit, all) {
                 Some(number) => resolve(state, number, analysis, hints)?,
                 None => lits.push(lit.negated().lit())?,
             }
@@ -300,7 +314,8 @@ fn name_reasons(state: &State, order: &mut Order, analysis: &mut Analysis, lits:
     }
 }
 
-/// Explains a falsified clause by the decisions, and brings the variables that it met down to the cut forward in the order.
+/// Explains a falsified clause by the decisions, and brings the variables that it met down to the cut forward in the order, or all that
+/// it met where it is explained by decisions alone.
 pub fn explain(
     alloc: Global,
     state: &State,
@@ -317,8 +332,14 @@ pub fn explain(
     begin(state, analysis, vars)?;
     resolve(state, number, analysis, &mut hints)?;
     let cut = resolve_level(state, vars, analysis, &mut hints)?;
-    order.name(analysis.met.all());
+    let last = analysis.met.all().len();
     let lits = keep(alloc, state, vars, cut, analysis, &mut hints)?;
+    let named = if analysis.by_decisions {
+        analysis.met.all().len()
+    } else {
+        last
+    };
+    order.name(analysis.met.all(), named);
     name_reasons(state, order, analysis, lits.as_slice());
     order.advance_step();
     hints.reverse();

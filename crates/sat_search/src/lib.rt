@@ -11,6 +11,7 @@ mod minimal;
 mod order;
 mod outcome;
 mod places;
+mod recent;
 mod restarts;
 mod search;
 mod solver;

@@ -86,12 +86,18 @@ fn has_implied_reason(state: &State, marks: &Marks, seen: &mut Seen, var: u64, d
 }
 
 /// The number of the clause that gave a literal of the trail, if that clause's other literals are false at level 0 or follow from
-/// what is marked.
-pub fn removal(state: &State, marks: &Marks, seen: &mut Seen, lit: ShortLit) -> Option<u64>
+/// what is marked, or if all literals are to be left out that a clause gave.
+pub fn removal(
+    state: &State,
+    marks: &Marks,
+    seen: &mut Seen,
+    lit: ShortLit,
+    all: bool,
+) -> Option<u64>
     requires { IsSome (trail_value (literals state.now.trail) lit.var) }
     ensures { IfSome result (λ number. option_map (λ e. e.reason) (entry_of state.now.trail lit.var) ≡ Some (Some number)) }
 {
-    if has_implied_reason(state, marks, seen, lit.var(), DEPTH) {
+    if all || has_implied_reason(state, marks, seen, lit.var(), DEPTH) {
         state.reason(lit.var())
     } else {
         None

@@ -203,9 +203,9 @@ impl Order {
         }
     }
 
-    /// Raises the scores of the variables that a conflict met.
-    pub fn name(&mut self, vars: &[u64]) {
-        for var in vars {
+    /// Raises the scores of the first of these variables, so many of them, which a conflict met.
+    pub fn name(&mut self, vars: &[u64], count: usize) {
+        for var in vars.iter().take(count) {
             self.raise(*var);
         }
     }

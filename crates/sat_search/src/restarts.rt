@@ -10,6 +10,7 @@ pub struct Restarts {
     turn: u64,
     length: u64,
     left: u64,
+    near: bool,
 }
 
 impl Restarts {
@@ -19,7 +20,19 @@ impl Restarts {
             turn: 1,
             length: 1,
             left: UNIT,
+            near: false,
         }
+    }
+
+    /// Values were found, and the search goes on beside them: it isn't to go back to its start for some conflicts.
+    pub fn stay(&mut self) {
+        self.left = UNIT;
+        self.near = true;
+    }
+
+    /// Whether the search goes on beside values that it found, and didn't go back to its start since.
+    pub fn is_near(&self) -> bool {
+        self.near
     }
 
     /// Counts a conflict. Answers whether the search is to go back to its start now.
@@ -28,6 +41,7 @@ impl Restarts {
         if self.left > 0 {
             return false;
         }
+        self.near = false;
         if self.turn & self.turn.wrapping_neg() == self.length {
             self.turn = self.turn.wrapping_add(1);
             self.length = 1;

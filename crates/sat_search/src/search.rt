@@ -11,8 +11,9 @@ use crate::learning::{Analysis, Explanation, explain};
 use crate::levels::{go_back, keep_all, keep_below_conflict, second_level};
 use crate::order::Order;
 use crate::outcome::Outcome;
+use crate::recent::Recent;
 use crate::restarts::Restarts;
-use cnf_core::{Clause, Lit, Log};
+use cnf_core::{Clause, Event, Lit, Log};
 use ep_base::Memory;
 use sat_state::{Propagated, State};
 use std::alloc::Global;
@@ -23,6 +24,7 @@ pub struct Tools {
     pub(crate) order: Order,
     pub(crate) analysis: Analysis,
     restarts: Restarts,
+    recent: Recent,
 }
 
 impl Tools {
@@ -32,7 +34,14 @@ impl Tools {
             order: Order::new(alloc),
             analysis: Analysis::new(alloc),
             restarts: Restarts::new(),
+            recent: Recent::new(alloc),
         }
+    }
+
+    /// Values were found, beside which the search goes on by the clause of this number.
+    pub fn stay(&mut self, number: u64) {
+        self.restarts.stay();
+        self.recent.push(number);
     }
 }
 
@@ -165,6 +174,23 @@ fn touch(state: &mut State, hints: &[u64])
     }
 }
 
+// Lets the state look no more at clauses that the last one makes needless, where the search goes on beside values that were found:
+// those that show it, and those that came before it.
+fn retire_needless(state: &mut State, tools: &mut Tools, log: &Log)
+    ensures { state.new ≡ state.old }
+{
+    if !tools.restarts.is_near() {
+        return;
+    }
+    let number = (log.events().len() as u64).saturating_sub(1);
+    if let Some(Event::Step(_, hints)) = log.events().last() {
+        for hint in hints {
+            state.retire(*hint, number);
+        }
+    }
+    tools.recent.retire_before(state, number);
+}
+
 // Explains a falsified clause, and learns what follows. Answers how the search ends, if it does.
 fn learn(
     alloc: Global,
@@ -187,6 +213,11 @@ fn learn(
     ensures ended { IfOk result (λ ended. IfSome ended (HasEnded budget log.new.events)) }
 {
     keep_below_conflict(state, &mut tools.order);
+    // Beside values that were found, what follows from a decision is gone through and left for good: the clause that says so stands in
+    // the place of those that said it of parts of it.
+    tools
+        .analysis
+        .explain_by_decisions(tools.restarts.is_near());
     let Explanation { lits, hints } = explain(
         alloc,
         state,
@@ -203,6 +234,7 @@ fn learn(
         Ok(Some(Outcome::Spent))
     } else {
         append(state, tools, vars, Clause::new(alloc, lits)?, hints, log)?;
+        retire_needless(state, tools, log);
         Ok(None)
     }
 }
