@@ -12,8 +12,8 @@ ghost use Rattle.ep_base.specs.Runs.{IsIn};
 
 use crate::bounds::{Bounds, Clip, added, clip_for, clipped, opposite_clip};
 use crate::comparison::{Comparison, needs_no_greater, needs_no_less};
-use crate::new_terms::any_of;
 use crate::making::{Raise, mirrored, raised};
+use crate::new_terms::any_of;
 use crate::sums::add_three;
 use crate::terms::{Step, Term};
 use cnf_core::Formula;
