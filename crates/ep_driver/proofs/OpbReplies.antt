@@ -13,12 +13,11 @@ use Rattle.ep_solve.specs.Right.{IsSpent, empty_log}
 use Rattle.sat_search.specs.Logs.{IsSound}
 use Rattle.opb_answer.specs.Answers.{OpbFound, no_solution, optimum, solution, unknown}
 use Rattle.opb_solve.specs.Logged.{IsOpbLogged, ShowsOpb}
-use Rattle.opb_solve.specs.Replies.{IsOpbReply, OpbComesTo, RepliesToOpb, is_spent}
+use Rattle.opb_solve.specs.Replies.{IsOpbReply, OpbComesTo, RepliesToOpb, says_spent}
 use Rattle.opb_solve.specs.declared.replies.OpbRefusal.{OpbRefusal}
 use Rattle.opb_solve.specs.declared.replies.OpbReply.{OpbReply}
 use Rattle.opb_solve.specs.declared.replies.OpbStop.{OpbStop}
 use Rattle.opb_text.specs.Contents.{OpbContent}
-use Rattle.opb_text.specs.declared.reading.TheConstants.{MOST_BYTES}
 use Rattle.ep_driver.specs.Answers.{Settles, opb_status, spent_status}
 use Rattle.ep_driver.specs.Outcomes.{Outcome, Task, opb_refusal, to_solve_opb}
 use Rattle.ep_driver.specs.Shown.{IsOpbTextReadAs, ThenShows, is_opb_task}
@@ -27,21 +26,22 @@ use Rattle.ep_driver.specs.Stops.{opb_stop}
 use Rattle.ep_driver.specs.declared.replies.Reply.{Reply}
 use Rattle.ep_driver.proofs.Refusing.{contains-first}
 use Rattle.ep_driver.proofs.Tasks.{searched}
+use Rattle.opb_text.specs.Words.{most_opb_bytes}
 
 -- ---- from the bytes that were read to the file
 
 -- the first bytes of a text, one more than such a text may have, are read as the text is
-pub cut-opb : IsCutAlike MOST_BYTES IsOpbTextReadAs
+pub cut-opb : IsCutAlike most_opb_bytes IsOpbTextReadAs
 cut-opb text (Ok content) h =
-    let P : List ℕ → Type 0 = λ t. IsOpbTextReadAs t (Ok content) in subst P (whole MOST_BYTES text h.0.short) h
+    let P : List ℕ → Type 0 = λ t. IsOpbTextReadAs t (Ok content) in subst P (whole most_opb_bytes text h.0.short) h
 cut-opb text (Err r) h = (h.0, cut-coming text h.0 h.1, h.2)
   where
-    cut-coming : (text : List ℕ) (own : OpbRefusal) → OpbComesTo (take (MOST_BYTES + 1) text) (Err own) → OpbComesTo text (Err own)
-    cut-coming text OpbRefusal.TooLong long = longer MOST_BYTES text long
+    cut-coming : (text : List ℕ) (own : OpbRefusal) → OpbComesTo (take (most_opb_bytes + 1) text) (Err own) → OpbComesTo text (Err own)
+    cut-coming text OpbRefusal.TooLong long = longer most_opb_bytes text long
     cut-coming text (OpbRefusal.Bad line) faulty =
-        let P : List ℕ → Type 0 = λ t. OpbComesTo t (Err (OpbRefusal.Bad line)) in subst P (whole MOST_BYTES text faulty.short) faulty
+        let P : List ℕ → Type 0 = λ t. OpbComesTo t (Err (OpbRefusal.Bad line)) in subst P (whole most_opb_bytes text faulty.short) faulty
     cut-coming text (OpbRefusal.Over limit) over =
-        let P : List ℕ → Type 0 = λ t. OpbComesTo t (Err (OpbRefusal.Over limit)) in subst P (whole MOST_BYTES text over.1.short) over
+        let P : List ℕ → Type 0 = λ t. OpbComesTo t (Err (OpbRefusal.Over limit)) in subst P (whole most_opb_bytes text over.1.short) over
 
 -- what bytes show the file shows that holds them
 held-shows : {A : Type 0} (most : ℕ) (texts : ReadsTexts A) → IsCutAlike most texts → (name bytes : List ℕ) (next : A → Outcome Task → Type 0) (x : Option (List ℕ)) (outcome : Outcome Task) → Some bytes ≡ option_map (take (most + 1)) x
@@ -109,7 +109,7 @@ opb-stopped text conflicts log OpbStop.Memory some h unlogged = logged-for text 
 
 shown-spent : (content : OpbContent) (vars : List ℕ) (conflicts : ℕ) (log : LogState) (found : OpbFound) (status : Status) → status ≡ opb_status found → ShowsOpb content vars conflicts log found
     → (status ≡ Status.Answered) ⊎ ((status ≡ Status.Unknown) × IsSpent conflicts log.events)
-unfolding is_spent ShowsOpb
+unfolding says_spent ShowsOpb
 shown-spent content vars conflicts log (solution values) status e h = inl e
 shown-spent content vars conflicts log (optimum values) status e h = inl e
 shown-spent content vars conflicts log no_solution status e h = inl e

@@ -21,7 +21,7 @@ use Rattle.opb_answer.specs.Answers.{OpbFound}
 use Rattle.opb_answer.specs.Lines.{answer_lines}
 use Rattle.opb_answer.specs.Right.{IsRightOpb}
 use Rattle.opb_solve.specs.Logged.{IsOpbLogged}
-use Rattle.opb_solve.specs.Replies.{is_spent}
+use Rattle.opb_solve.specs.Replies.{says_spent}
 use Rattle.ep_driver.specs.Outcomes.{Task, to_check, to_divide, to_explain, to_generate, to_judge, to_list, to_solve, to_solve_opb}
 use Rattle.ep_files.specs.declared.status.Status.{Status}
 use Rattle.ep_said.specs.Judgements.{judgement_text, wrong_shape_text}
@@ -53,7 +53,7 @@ spent_status false = Status.Answered
 
 -- how a run ends that answers a pseudo-Boolean problem
 abbrev pub opb_status : OpbFound → Status
-opb_status found = spent_status (is_spent found)
+opb_status found = spent_status (says_spent found)
 
 -- how a run ends that explains why there is no solution
 abbrev pub explanation_status : Explained → Status

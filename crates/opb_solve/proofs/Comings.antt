@@ -11,9 +11,8 @@ use Rattle.opb_solve.specs.Replies.{IsOpbFaulty, IsOpbReadAs, IsOverOpbLimit, Is
 use Rattle.opb_solve.specs.declared.replies.OpbRefusal.{OpbRefusal}
 use Rattle.opb_text.specs.Contents.{OpbContent, OpbConstraint, objective_terms}
 use Rattle.opb_text.specs.Grammar.{IsOpbFaultLine, SpellsOpb}
-use Rattle.opb_text.specs.Weights.{IsProblemWithinReach, Weighs, factors_size, row_size}
-use Rattle.opb_text.specs.declared.measure.TheConstants.{MOST_REACH, MOST_WEIGHT}
-use Rattle.opb_text.specs.declared.reading.TheConstants.{MOST_BYTES}
+use Rattle.opb_text.specs.Weights.{IsProblemWithinReach, Weighs, factors_reach, row_reach, most_reach, most_weight}
+use Rattle.opb_text.specs.Words.{most_opb_bytes}
 
 -- ---- one thing
 
@@ -52,11 +51,11 @@ IsMeant text = ((content : OpbContent) × SpellsOpb text content) ⊎ (((content
 abbrev pub Comes : List ℕ → Type 0
 Comes text = (outcome : Result OpbContent OpbRefusal) × OpbComesTo text outcome
 
-rows_decided : (rows : List OpbConstraint) → All (λ row. row_size row ≤ MOST_REACH) rows ⊎ ¬ All (λ row. row_size row ≤ MOST_REACH) rows
-rows_decided [] = inl (All-nil (λ (row : OpbConstraint). row_size row ≤ MOST_REACH))
+rows_decided : (rows : List OpbConstraint) → All (λ row. row_reach row ≤ most_reach) rows ⊎ ¬ All (λ row. row_reach row ≤ most_reach) rows
+rows_decided [] = inl (All-nil (λ (row : OpbConstraint). row_reach row ≤ most_reach))
 rows_decided (row ∷ rows) =
-    let P : OpbConstraint → Type 0 = λ r. row_size r ≤ MOST_REACH in
-    elim (cases_lt MOST_REACH (row_size row)) as (λ _. All P (row ∷ rows) ⊎ ¬ All P (row ∷ rows)) [
+    let P : OpbConstraint → Type 0 = λ r. row_reach r ≤ most_reach in
+    elim (cases_lt most_reach (row_reach row)) as (λ _. All P (row ∷ rows) ⊎ ¬ All P (row ∷ rows)) [
       | inl far ↦ inr (λ all. let near = All-head P row rows all in omega (arith, far, near))
       | inr near ↦ elim (rows_decided rows) as (λ _. All P (row ∷ rows) ⊎ ¬ All P (row ∷ rows)) [
         | inl all ↦ inl (All-cons P row rows near all)
@@ -66,7 +65,7 @@ rows_decided (row ∷ rows) =
 
 reach_decided : (content : OpbContent) → IsProblemWithinReach content ⊎ ¬ IsProblemWithinReach content
 reach_decided content =
-    elim (cases_lt MOST_REACH (factors_size (objective_terms content))) as (λ _. IsProblemWithinReach content ⊎ ¬ IsProblemWithinReach content) [
+    elim (cases_lt most_reach (factors_reach (objective_terms content))) as (λ _. IsProblemWithinReach content ⊎ ¬ IsProblemWithinReach content) [
       | inl far ↦ inr (λ within. let near = within.objective in omega (arith, far, near))
       | inr near ↦ elim (rows_decided content.rows) as (λ _. IsProblemWithinReach content ⊎ ¬ IsProblemWithinReach content) [
         | inl rows ↦ inl (record { objective = near; rows = rows })
@@ -76,7 +75,7 @@ reach_decided content =
 
 weighed : (text : List ℕ) (content : OpbContent) → IsOpbReadAs text content → IsProblemWithinReach content → (weight : ℕ) → Weighs content weight → Comes text
 weighed text content read within weight weighs =
-    elim (cases_lt MOST_WEIGHT weight) as (λ _. Comes text) [
+    elim (cases_lt most_weight weight) as (λ _. Comes text) [
       | inl heavy ↦ (Err (OpbRefusal.Over Limit.Weight), (content, read, (within, record { weight = weight; weighs = weighs; high = heavy })))
       | inr light ↦ (Ok content, (read, within, record { weight = weight; weighs = weighs; low = light }))
     ]
@@ -90,7 +89,7 @@ spelled_comes text content read =
 
 pub comes_some : (text : List ℕ) → IsMeant text → Comes text
 comes_some text meant =
-    elim (cases_lt MOST_BYTES (length text)) as (λ _. Comes text) [
+    elim (cases_lt most_opb_bytes (length text)) as (λ _. Comes text) [
       | inl long ↦ (Err OpbRefusal.TooLong, long)
       | inr short ↦ elim meant as (λ _. Comes text) [
         | inl spelled ↦ spelled_comes text spelled.0 (record { short = short; spells = spelled.1 })

@@ -13,12 +13,11 @@ use Rattle.opb_solve.specs.declared.replies.OpbStop.{OpbStop}
 use Rattle.opb_text.specs.Contents.{OpbContent}
 use Rattle.opb_text.specs.Grammar.{IsOpbFaultLine, SpellsOpb}
 use Rattle.opb_text.specs.Views.{plain_opb}
-use Rattle.opb_text.specs.Weights.{IsProblemWithinReach, Weighs, sums_cost}
+use Rattle.opb_text.specs.Weights.{IsProblemWithinReach, Weighs, sums_cost, most_weight}
 use Rattle.opb_text.specs.declared.content.Opb.{Opb}
 use Rattle.opb_text.specs.declared.errors.OpbError.{OpbError}
 use Rattle.opb_text.specs.declared.errors.OpbSizeError.{OpbSizeError}
-use Rattle.opb_text.specs.declared.measure.TheConstants.{MOST_WEIGHT}
-use Rattle.opb_text.specs.declared.reading.TheConstants.{MOST_BYTES}
+use Rattle.opb_text.specs.Words.{most_opb_bytes}
 
 within_of : (most n : ℕ) → (most < n → ⊥) → n ≤ most
 within_of most n none = by (nat_lt most n) refl
@@ -31,18 +30,18 @@ within_of most n none = by (nat_lt most n) refl
 
 -- what is known of reading a text
 pub record ReadFacts (text : List ℕ) (r : Result Opb OpbError) : Type 0 where
-  pub too_long : IsErrOf r OpbError.TooLong ↔ (MOST_BYTES < length text)
+  pub too_long : IsErrOf r OpbError.TooLong ↔ (most_opb_bytes < length text)
   pub spelled : IfOk r (λ opb. SpellsOpb text (plain_opb opb))
   pub complete : (content : OpbContent) → SpellsOpb text content → MatchResult r (λ opb. plain_opb opb ≡ content) (λ error. (line : ℕ) → error ≡ OpbError.Bad line → ⊥)
   pub fault : (line : ℕ) → r ≡ Err (OpbError.Bad line) → IsOpbFaultLine text line
 
 pub read_is : (text : List ℕ) (opb : Opb) → ReadFacts text (Ok opb) → IsOpbReadAs text (plain_opb opb)
-read_is text opb h = record { short = within_of MOST_BYTES (length text) (λ long. let e = h.too_long.1 long in absurd cc); spells = h.spelled }
+read_is text opb h = record { short = within_of most_opb_bytes (length text) (λ long. let e = h.too_long.1 long in absurd cc); spells = h.spelled }
 
 pub read_stops : (text : List ℕ) (error : OpbError) → ReadFacts text (Err error) → ReadsOpb text (Err (read_stop error))
 read_stops text OpbError.TooLong h = h.too_long.0 refl
 read_stops text (OpbError.Bad line) h = record {
-  short = within_of MOST_BYTES (length text) (λ long. let e = h.too_long.1 long in absurd cc);
+  short = within_of most_opb_bytes (length text) (λ long. let e = h.too_long.1 long in absurd cc);
   spells_none = λ content spells. h.complete content spells line refl;
   fault = h.fault line refl;
 }
@@ -50,7 +49,7 @@ read_stops text OpbError.Memory h = tt
 
 -- ---- refusals of one text
 
-pub both_lengths : {P : Type 0} (n : ℕ) → MOST_BYTES < n → n ≤ MOST_BYTES → P
+pub both_lengths : {P : Type 0} (n : ℕ) → most_opb_bytes < n → n ≤ most_opb_bytes → P
 both_lengths n long short = absurd (omega (arith, long, short))
 
 pub unread_same : (text : List ℕ) (r refusal : OpbRefusal) → IsOpbUnread text r → OpbComesTo text (Err refusal) → r ≡ refusal
@@ -109,7 +108,7 @@ measured_not text own refusal h only reach low g = let r = refused_over text own
 -- what is known of a measure that is an error
 pub record SizeFacts (own : OpbContent) (error : OpbSizeError) : Type 0 where
   pub reach : error ≡ OpbSizeError.Limit Limit.Reach → IsProblemWithinReach own → ⊥
-  pub over : error ≡ OpbSizeError.Limit Limit.Weight → IsProblemWithinReach own × (weight : ℕ) × Weighs own weight × (MOST_WEIGHT < weight)
+  pub over : error ≡ OpbSizeError.Limit Limit.Weight → IsProblemWithinReach own × (weight : ℕ) × Weighs own weight × (most_weight < weight)
   pub size : error ≡ OpbSizeError.Limit Limit.Size → ⊥
 
 pub is_over : (own : OpbContent) (limit : Limit) → SizeFacts own (OpbSizeError.Limit limit) → IsOverOpbLimit own limit

@@ -12,23 +12,22 @@ use Rattle.opb_solve.specs.declared.replies.OpbStop.{OpbStop}
 use Rattle.opb_text.specs.Contents.{OpbContent}
 use Rattle.opb_text.specs.Grammar.{IsOpbFaultLine, SpellsOpb}
 use Rattle.opb_text.specs.Views.{plain_opb}
-use Rattle.opb_text.specs.Weights.{IsProblemWithinReach, Weighs}
+use Rattle.opb_text.specs.Weights.{IsProblemWithinReach, Weighs, most_weight}
 use Rattle.opb_text.specs.declared.content.Opb.{Opb}
 use Rattle.opb_text.specs.declared.errors.OpbError.{OpbError}
 use Rattle.opb_text.specs.declared.errors.OpbSizeError.{OpbSizeError}
-use Rattle.opb_text.specs.declared.measure.TheConstants.{MOST_WEIGHT}
-use Rattle.opb_text.specs.declared.reading.TheConstants.{MOST_BYTES}
+use Rattle.opb_text.specs.Words.{most_opb_bytes}
 
 -- ---- what a text comes to
 
 -- a text that isn't too long spells this problem
 pub record IsOpbReadAs (text : List ℕ) (content : OpbContent) : Type 0 where
-  pub short : length text ≤ MOST_BYTES
+  pub short : length text ≤ most_opb_bytes
   pub spells : SpellsOpb text content
 
 -- a text that isn't too long spells no problem, and its fault stands on this line
 pub record IsOpbFaulty (text : List ℕ) (line : ℕ) : Type 0 where
-  pub short : length text ≤ MOST_BYTES
+  pub short : length text ≤ most_opb_bytes
   pub spells_none : (content : OpbContent) → ¬ SpellsOpb text content
   pub fault : IsOpbFaultLine text line
 
@@ -36,12 +35,12 @@ pub record IsOpbFaulty (text : List ℕ) (line : ℕ) : Type 0 where
 pub record IsWithinWeight (content : OpbContent) : Type 0 where
   pub weight : ℕ
   pub weighs : Weighs content weight
-  pub low : weight ≤ MOST_WEIGHT
+  pub low : weight ≤ most_weight
 
 pub record IsOverWeight (content : OpbContent) : Type 0 where
   pub weight : ℕ
   pub weighs : Weighs content weight
-  pub high : MOST_WEIGHT < weight
+  pub high : most_weight < weight
 
 -- a problem is over a limit: one of its sums reaches too far; or none does, and it weighs too much
 abbrev pub IsOverOpbLimit : OpbContent → Limit → Type 0
@@ -53,18 +52,18 @@ IsOverOpbLimit content Limit.Weight = IsProblemWithinReach content × IsOverWeig
 -- limit that its problem is over.
 abbrev pub OpbComesTo : List ℕ → Result OpbContent OpbRefusal → Type 0
 OpbComesTo text (Ok content) = IsOpbReadAs text content × IsProblemWithinReach content × IsWithinWeight content
-OpbComesTo text (Err OpbRefusal.TooLong) = MOST_BYTES < length text
+OpbComesTo text (Err OpbRefusal.TooLong) = most_opb_bytes < length text
 OpbComesTo text (Err (OpbRefusal.Bad line)) = IsOpbFaulty text line
 OpbComesTo text (Err (OpbRefusal.Over limit)) = (content : OpbContent) × IsOpbReadAs text content × IsOverOpbLimit content limit
 
 -- ---- what is said
 
 -- whether an answer is that the conflicts were spent
-unfoldable pub is_spent : OpbFound → Bool
-is_spent (solution values) = false
-is_spent (optimum values) = false
-is_spent no_solution = false
-is_spent (unknown best) = true
+unfoldable pub says_spent : OpbFound → Bool
+says_spent (solution values) = false
+says_spent (optimum values) = false
+says_spent no_solution = false
+says_spent (unknown best) = true
 
 -- a reply says a right answer, which the log shows
 pub record IsOpbReply (content : OpbContent) (budget : ℕ) (log : LogState) (reply : OpbReply) : Type 0 where
@@ -72,7 +71,7 @@ pub record IsOpbReply (content : OpbContent) (budget : ℕ) (log : LogState) (re
   pub right : IsRightOpb content found
   pub logged : IsOpbLogged content budget log found
   pub text : reply.text.items ≡ answer_lines found
-  pub spent : reply.spent ≡ is_spent found
+  pub spent : reply.spent ≡ says_spent found
 
 -- a reply answers the problem that a text comes to, or a refusal is what it comes to; want of memory says nothing
 abbrev pub RepliesToOpb : List ℕ → ℕ → LogState → Result OpbReply OpbStop → Type 0
@@ -84,7 +83,7 @@ RepliesToOpb text budget log (Err OpbStop.Memory) = Unit {0}
 
 -- a text is refused whatever the limits of problems are
 abbrev pub IsOpbUnread : List ℕ → OpbRefusal → Type 0
-IsOpbUnread text OpbRefusal.TooLong = MOST_BYTES < length text
+IsOpbUnread text OpbRefusal.TooLong = most_opb_bytes < length text
 IsOpbUnread text (OpbRefusal.Bad line) = IsOpbFaulty text line
 IsOpbUnread text (OpbRefusal.Over limit) = ⊥
 

@@ -2,7 +2,7 @@
 
 ghost use Rattle.std.specs.Prelude.{◌≡◌, ◌⊎◌, [], All, IfOk, Err};
 ghost use Rattle.opb_answer.specs.Answers.{plain_found};
-ghost use Rattle.opb_solve.specs.Replies.{GivesOpb, OpbComesTo, ReadsOpb, RepliesToOpb, is_spent, read_stop, size_stop};
+ghost use Rattle.opb_solve.specs.Replies.{GivesOpb, OpbComesTo, ReadsOpb, RepliesToOpb, says_spent, read_stop, size_stop};
 ghost use Rattle.opb_solve.specs.declared.replies.OpbRefusal.{OpbRefusal as Refusal};
 ghost use Rattle.opb_solve.specs.declared.replies.OpbStop.TheVariants as stops;
 ghost use Rattle.opb_text.specs.Contents.{OpbContent};
@@ -32,8 +32,8 @@ pub struct OpbReply {
 pub enum OpbRefusal {
     /// It has more than [`opb_text::MOST_BYTES`] bytes.
     TooLong,
-    /// The first word with which no text can go on stands on this line, counted from 1, or words are wanting behind the last
-    /// one, whose line is the last.
+    /// The first word with which no text can go on stands on this line, counted from 1, or words are wanting at the end, and
+    /// then it is the text's last line.
     Bad(u64),
     /// Its problem is over this limit.
     Over(Limit),
@@ -80,7 +80,7 @@ pub fn reply_to_opb(
     let opb = opb_in(alloc, text)?;
     let answer = solve_opb(alloc, &opb, budget, log)?;
     let lines = print_opb_answer(alloc, &answer)?;
-    let spent = is_spent(&answer);
+    let spent = says_spent(&answer);
     Ok(OpbReply { text: lines, spent })
 }
 
@@ -130,9 +130,9 @@ fn size_stop(error: OpbSizeError) -> OpbStop
 }
 
 /// Whether an answer is that the conflicts were spent.
-#[tactic(auto, unfolding(crate::specs::Replies::is_spent))]
-fn is_spent(answer: &OpbAnswer) -> bool
-    ensures { result ≡ is_spent (plain_found answer.now) }
+#[tactic(auto, unfolding(crate::specs::Replies::says_spent))]
+fn says_spent(answer: &OpbAnswer) -> bool
+    ensures { result ≡ says_spent (plain_found answer.now) }
 {
     match answer {
         OpbAnswer::Solution(_) | OpbAnswer::Optimum(_) | OpbAnswer::NoSolution => false,

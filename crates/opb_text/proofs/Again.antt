@@ -11,7 +11,7 @@ use Rattle.opb_text.specs.Contents.{OpbConstraint, OpbContent}
 use Rattle.opb_text.specs.Grammar.{SpellsTerm, SpellsOpbTerms, SpellsRow, SpellsRows, SpellsObjective, SpellsContent, relation_word, end_word}
 use Rattle.opb_text.specs.Numbers.{signed_number_of}
 use Rattle.opb_text.specs.Words.{relation_of, is_goal}
-use Rattle.opb_text.specs.Reading.{Begun, start, step, step_at, row_term, at_row_term, with_relation, is_done, may_end, content_of}
+use Rattle.opb_text.specs.Reading.{Begun, start, opb_step, opb_step_at, row_term, at_row_term, with_relation, is_done, may_end, content_of}
 use Rattle.opb_text.proofs.Following.{follow}
 use Rattle.opb_text.proofs.Signs.{relation_no_number, relation_again, relation_no_goal, number_no_goal}
 
@@ -23,7 +23,7 @@ begun objective rows terms stage = record { objective = objective; rows = rows; 
 
 one_term : (p : Part) (o : Option (List OpbTerm)) (rows : List OpbConstraint) (terms : List OpbTerm) (t : OpbTerm) (number literal : List ℕ) (later : List (List ℕ)) → SpellsTerm t number literal
     → follow (begun o rows terms (Term p)) (number ∷ literal ∷ later) ≡ follow (begun o rows (terms ++ t ∷ []) (Term p)) later
-unfolding follow step_at
+unfolding follow opb_step_at
 one_term part.Goal o rows terms t number literal later s = rw (s.factor, s.literal) refl
 one_term part.Row o rows terms t number literal later s = rw (s.factor, s.literal) refl
 
@@ -42,7 +42,7 @@ terms_again p o rows (t ∷ more) terms words later s =
 
 row_end : (o : Option (List OpbTerm)) (rows : List OpbConstraint) (row : OpbConstraint) (right : List ℕ) (later : List (List ℕ)) → signed_number_of right ≡ Some row.right
     → follow (begun o rows row.terms (Term part.Row)) (relation_word row.equal ∷ right ∷ end_word ∷ later) ≡ follow (begun o (rows ++ row ∷ []) [] (Term part.Row)) later
-unfolding follow step_at
+unfolding follow opb_step_at
 row_end o rows row right later s = rw (relation_no_number row.equal, relation_again row.equal, s) refl
 
 pub row_again : (o : Option (List OpbTerm)) (rows : List OpbConstraint) (row : OpbConstraint) (words later : List (List ℕ)) → SpellsRow row words
@@ -102,10 +102,10 @@ row_term_alike word (Some factor) = refl
 
 -- where no objective is stated, the first constraint may begin at once
 start_alike : (words more : List (List ℕ)) → FirstWord words → follow start (words ++ more) ≡ follow (begun None [] [] (Term part.Row)) (words ++ more)
-unfolding follow step_at
+unfolding follow opb_step_at
 start_alike words more f =
     let none : at_row_term start f.word ≡ at_row_term (begun None [] [] (Term part.Row)) f.word = row_term_alike f.word (signed_number_of f.word) in
-    let step_alike : step start f.word ≡ step (begun None [] [] (Term part.Row)) f.word = rw f.no_goal none in
+    let step_alike : opb_step start f.word ≡ opb_step (begun None [] [] (Term part.Row)) f.word = rw f.no_goal none in
     let whole : words ++ more ≡ f.word ∷ (f.later ++ more) = ap (λ (ws : List (List ℕ)). ws ++ more) f.is in
     ap (follow start) whole
     ∙ ap (option_and_then (λ (next : Begun). follow next (f.later ++ more))) step_alike
@@ -137,11 +137,11 @@ rows_read (row ∷ rows) words s = record {
 }
 
 goal_begins : (later : List (List ℕ)) → follow start (codes "min:" ∷ later) ≡ follow (begun None [] [] (Term part.Goal)) later
-unfolding follow step_at
+unfolding follow opb_step_at
 goal_begins later = refl
 
 goal_ends : (terms : List OpbTerm) (later : List (List ℕ)) → follow (begun None [] terms (Term part.Goal)) (end_word ∷ later) ≡ follow (begun (Some terms) [] [] (Term part.Row)) later
-unfolding follow step_at
+unfolding follow opb_step_at
 goal_ends terms later = refl
 
 goal_read : (terms : List OpbTerm) (rows : List OpbConstraint) (goal_words rows_words : List (List ℕ)) → SpellsObjective (Some terms) goal_words → SpellsRows rows rows_words

@@ -11,7 +11,7 @@ use Rattle.opb_text.specs.declared.reader.Stage.TheVariants.{Start, Term, Litera
 use Rattle.opb_text.specs.Contents.{OpbConstraint, OpbContent}
 use Rattle.opb_text.specs.Grammar.{SpellsContent, SpellsOpb, CanGoOnAsOpb, IsOpbFaultLine, bare_words, relation_word, end_word}
 use Rattle.opb_text.specs.Numbers.{signed_number_of}
-use Rattle.opb_text.specs.Reading.{Begun, start, step, run, is_done, content_of}
+use Rattle.opb_text.specs.Reading.{Begun, start, opb_step, run, is_done, content_of}
 use Rattle.opb_text.specs.Words.{placed_opb_words}
 use Rattle.opb_text.proofs.Following.{follow, follow_on, run_ok, run_err}
 use Rattle.opb_text.proofs.Again.{content_read}
@@ -116,12 +116,12 @@ spelled_is_read : (content : OpbContent) (words : List (List ℕ)) → SpellsCon
 spelled_is_read content words s = let r = content_read content words s in (r.last, r.followed, r.done, r.content_is)
 
 -- nothing is read behind a wrong word
-wrong_reads_nothing : (front later : List (List ℕ)) (word : List ℕ) (at : Begun) → follow start front ≡ Some at → step at word ≡ None → follow start (front ++ word ∷ later) ≡ None
+wrong_reads_nothing : (front later : List (List ℕ)) (word : List ℕ) (at : Begun) → follow start front ≡ Some at → opb_step at word ≡ None → follow start (front ++ word ∷ later) ≡ None
 unfolding follow
 wrong_reads_nothing front later word at e wrong =
     follow_on start at front (word ∷ later) e ∙ ap (option_and_then (λ (next : Begun). follow next later)) wrong
 
-not_good : (front : List (List ℕ)) (word : List ℕ) (at : Begun) → follow start front ≡ Some at → step at word ≡ None → CanGoOnAsOpb (front ++ word ∷ []) → ⊥
+not_good : (front : List (List ℕ)) (word : List ℕ) (at : Begun) → follow start front ≡ Some at → opb_step at word ≡ None → CanGoOnAsOpb (front ++ word ∷ []) → ⊥
 not_good front word at e wrong can =
     let r = spelled_is_read can.2 (bare_words (placed_opb_words can.0)) can.4 in
     let cut : bare_words (placed_opb_words can.0) ≡ front ++ word ∷ can.1 = can.3 ∙ append_assoc front (word ∷ []) can.1 in

@@ -27,8 +27,8 @@ use Rattle.opb_text.specs.declared.content.OpbTerm.{OpbTerm}
 use Rattle.opb_text.specs.Contents.{OpbConstraint, OpbContent}
 use Rattle.opb_text.specs.Flats.{StandsFor, HasValueOf, truth_domains, truth_numbers, truths_of}
 use Rattle.opb_text.specs.Solutions.{SidesHold, RowHolds, terms_total}
-use Rattle.opb_text.specs.Sums.{AreConsOf, AreNamed, AreNamedRows, AreTruthsOf, GoesOnWith, IsConOf, IsGoalCon, IsSpan, IsSumOf, IsTruth, NamesUpTo, compared, parts_size, opb_parts_total}
-use Rattle.opb_text.specs.Weights.{AreVariablesOf, factors_size}
+use Rattle.opb_text.specs.Sums.{AreConsOf, AreNamed, AreNamedRows, AreBitsOf, GoesOnWith, IsConOf, IsGoalCon, IsSpan, IsSumOf, IsBit, NamesUpTo, compared, parts_reach, opb_parts_total}
+use Rattle.opb_text.specs.Weights.{AreVariablesOf, factors_reach}
 use Rattle.opb_text.proofs.SumLaws.{total_push, within_numbers}
 
 -- a sum that is compared with a number
@@ -82,19 +82,19 @@ compared_says false whole sum constant right e = (
 
 -- ---- one constraint
 
-small_part : (parts : List (ℤ × ℕ)) (k : ℕ) (d : ℤ × ℕ) → k < length parts → unsigned_abs (get_or parts k d).0 ≤ parts_size parts
+small_part : (parts : List (ℤ × ℕ)) (k : ℕ) (d : ℤ × ℕ) → k < length parts → unsigned_abs (get_or parts k d).0 ≤ parts_reach parts
 small_part [] k d lt = absurd (omega arith)
 small_part (p ∷ parts) zero d lt = let s = sum_by-cons (λ (q : ℤ × ℕ). unsigned_abs q.0) p parts in omega (arith, s)
 small_part (p ∷ parts) (suc k) d lt =
     let s = sum_by-cons (λ (q : ℤ × ℕ). unsigned_abs q.0) p parts in let inner = small_part parts k d (omega (arith, lt)) in omega (arith, s, inner)
 
-pub parts_small : (parts : List (ℤ × ℕ)) → parts_size parts ≤ 1099511627776 → All IsWithinNumbers (map (λ p. p.0) parts)
+pub parts_small : (parts : List (ℤ × ℕ)) → parts_reach parts ≤ 1099511627776 → All IsWithinNumbers (map (λ p. p.0) parts)
 parts_small parts small = All-map IsWithinNumbers (λ (p : ℤ × ℕ). p.0) parts (λ k d lt. within_numbers (get_or parts k d).0 (let one = small_part parts k d lt in omega (arith, one, small)))
 
 names_mapped : (count : ℕ) (parts : List (ℤ × ℕ)) → NamesUpTo count parts → All (λ x. x < count) (map (λ p. p.1) parts)
 names_mapped count parts named = All-map (λ x. x < count) (λ (p : ℤ × ℕ). p.1) parts named
 
-pub row_con_is : (vars : List ℕ) (row : OpbConstraint) (parts : List (ℤ × ℕ)) (constant number : ℤ) → IsSumOf vars row.terms parts constant → factors_size row.terms ≤ 1099511627776 → number ≡ (row.right -ℤ constant)
+pub row_con_is : (vars : List ℕ) (row : OpbConstraint) (parts : List (ℤ × ℕ)) (constant number : ℤ) → IsSumOf vars row.terms parts constant → factors_reach row.terms ≤ 1099511627776 → number ≡ (row.right -ℤ constant)
     → IsConOf vars row (sum_con parts (compared row.equal) number)
 unfolding con_holds is_as_said kind_holds con_variables kind_variables kind_coefficients
 row_con_is vars row parts constant number s small is = record {
@@ -126,7 +126,7 @@ goal_total values number parts goal is named =
 names_weaker : (count : ℕ) (parts : List (ℤ × ℕ)) → NamesUpTo count parts → NamesUpTo (count + 1) parts
 names_weaker count parts named = All-weaker (λ (p : ℤ × ℕ). p.1 < count) (λ (p : ℤ × ℕ). p.1 < count + 1) (λ p lt. omega (arith, lt)) parts named
 
-pub goal_con_is : (vars : List ℕ) (terms : List OpbTerm) (parts : List (ℤ × ℕ)) (constant number : ℤ) (goal : ℕ) → IsSumOf vars terms parts constant → factors_size terms ≤ 1099511627776
+pub goal_con_is : (vars : List ℕ) (terms : List OpbTerm) (parts : List (ℤ × ℕ)) (constant number : ℤ) (goal : ℕ) → IsSumOf vars terms parts constant → factors_reach terms ≤ 1099511627776
     → number ≡ neg_ℤ constant → goal ≡ length vars → IsGoalCon vars terms (sum_con (parts ++ (neg_ℤ (pos 1), goal) ∷ []) op.Equal number)
 unfolding con_holds is_as_said kind_holds con_variables kind_variables kind_coefficients
 goal_con_is vars terms parts constant number goal s small is at = record {
@@ -145,22 +145,22 @@ goal_con_is vars terms parts constant number goal s small is at = record {
 
 -- ---- domains
 
-pub domain_truth : (n : ℤ) → Contains truth_numbers n → IsTruth n
-domain_truth n c = elim (first_or_later (pos 0) n (pos 1 ∷ []) c) as (λ _. IsTruth n) [
+pub domain_truth : (n : ℤ) → Contains truth_numbers n → IsBit n
+domain_truth n c = elim (first_or_later (pos 0) n (pos 1 ∷ []) c) as (λ _. IsBit n) [
   | inl e ↦ inl (sym e)
-  | inr w ↦ elim (first_or_later (pos 1) n [] w) as (λ _. IsTruth n) [
+  | inr w ↦ elim (first_or_later (pos 1) n [] w) as (λ _. IsBit n) [
     | inl e ↦ inr (sym e)
     | inr v ↦ nothing_in n v
   ]
 ]
 
-pub domains_truths : (vars : List ℕ) (values : List ℤ) → AllZip Contains (truth_domains vars) values → AreTruthsOf vars values
-domains_truths [] [] zip = record { long = refl; truths = All-nil IsTruth }
+pub domains_truths : (vars : List ℕ) (values : List ℤ) → AllZip Contains (truth_domains vars) values → AreBitsOf vars values
+domains_truths [] [] zip = record { long = refl; bits = All-nil IsBit }
 domains_truths [] (v ∷ values) zip = absurd zip
 domains_truths (x ∷ vars) [] zip = absurd zip
 domains_truths (x ∷ vars) (v ∷ values) zip =
     let inner = domains_truths vars values zip.1 in
-    record { long = ap suc inner.long; truths = All-cons IsTruth v values (domain_truth v zip.0) inner.truths }
+    record { long = ap suc inner.long; bits = All-cons IsBit v values (domain_truth v zip.0) inner.bits }
 
 zip_front : (domains more : List (List ℤ)) (values others : List ℤ) → length values ≡ length domains → AllZip Contains (domains ++ more) (values ++ others) → AllZip Contains domains values × AllZip Contains more others
 zip_front [] more [] others long zip = (tt, zip)
@@ -177,7 +177,7 @@ zip_both (d ∷ domains) more (v ∷ values) others zip rest = (zip.0, zip_both 
 
 -- ---- all constraints
 
-pub rows_say : (vars : List ℕ) (rows : List OpbConstraint) (cons : List FlatCon) (values more : List ℤ) → AreConsOf vars rows cons → AreTruthsOf vars values
+pub rows_say : (vars : List ℕ) (rows : List OpbConstraint) (cons : List FlatCon) (values more : List ℤ) → AreConsOf vars rows cons → AreBitsOf vars values
     → All (λ con. IsTrue (con_holds (values ++ more) con)) cons ↔ All (RowHolds (truths_of vars values)) rows
 rows_say vars [] [] values more zip are = (λ all. All-nil (RowHolds (truths_of vars values)), λ all. All-nil (λ con. IsTrue (con_holds (values ++ more) con)))
 rows_say vars [] (con ∷ cons) values more zip are = absurd zip
@@ -361,21 +361,21 @@ pub both_ok : {X E : Type 0} {P Q R : X → Type 0} (r : Result X E) → IfOk r 
 both_ok (Ok x) p q f = f x p q
 both_ok (Err e) p q f = tt
 
-zero_or_one : (n : ℤ) → pos 0 ≤ℤ n → n ≤ℤ pos 1 → IsTruth n
+zero_or_one : (n : ℤ) → pos 0 ≤ℤ n → n ≤ℤ pos 1 → IsBit n
 zero_or_one (pos zero) low high = inl refl
 zero_or_one (pos (suc zero)) low high = inr refl
 zero_or_one (pos (suc (suc n))) low high = absurd (omega (arith, ints, high))
 zero_or_one (negsuc n) low high = absurd (omega (arith, ints, low))
 
-truth_there : (n : ℤ) → IsTruth n → Contains truth_numbers n
+truth_there : (n : ℤ) → IsBit n → Contains truth_numbers n
 truth_there n (inl is) = subst (Contains truth_numbers) (sym is) (first_of (pos 0) (pos 1 ∷ []))
 truth_there n (inr is) = subst (Contains truth_numbers) (sym is) (later_of (pos 0) (pos 1) (pos 1 ∷ []) (first_of (pos 1) []))
 
-truth_low : (n : ℤ) → IsTruth n → pos 0 ≤ℤ n
+truth_low : (n : ℤ) → IsBit n → pos 0 ≤ℤ n
 truth_low n (inl is) = omega (arith, ints, is)
 truth_low n (inr is) = omega (arith, ints, is)
 
-truth_high : (n : ℤ) → IsTruth n → n ≤ℤ pos 1
+truth_high : (n : ℤ) → IsBit n → n ≤ℤ pos 1
 truth_high n (inl is) = omega (arith, ints, is)
 truth_high n (inr is) = omega (arith, ints, is)
 

@@ -12,7 +12,7 @@ use Rattle.opb_text.specs.Contents.{OpbConstraint}
 use Rattle.opb_text.specs.Grammar.{SpellsTerm, SpellsOpbTerms, SpellsRow, SpellsRows, SpellsObjective, SpellsContent, relation_word, end_word}
 use Rattle.opb_text.specs.Numbers.{signed_number_of, opb_literal_of}
 use Rattle.opb_text.specs.Words.{relation_of, is_goal, is_end}
-use Rattle.opb_text.specs.Reading.{Begun, start, step, step_at, then_comes, row_term, goal_term, with_relation, with_term, with_objective, with_row, is_done, may_end, has_none, content_of}
+use Rattle.opb_text.specs.Reading.{Begun, start, opb_step, opb_step_at, then_comes, row_term, goal_term, with_relation, with_term, with_objective, with_row, is_done, may_end, has_none, content_of}
 use Rattle.opb_text.proofs.Following.{follow}
 use Rattle.opb_text.proofs.Signs.{end_is, goal_is, relation_is}
 
@@ -216,8 +216,8 @@ goal_begins b words word s is = record {
   terms_are = subst (λ (ts : List OpbTerm). SpellsOpbTerms ts []) (sym s.no_terms) refl;
 }
 
-next_at : (s : Stage) (b next : Begun) (words : List (List ℕ)) (word : List ℕ) → ReachedAt s b.objective b.rows b.terms words → step_at s b word ≡ Some next → Reached next (words ++ word ∷ [])
-unfolding step_at ReachedAt
+next_at : (s : Stage) (b next : Begun) (words : List (List ℕ)) (word : List ℕ) → ReachedAt s b.objective b.rows b.terms words → opb_step_at s b word ≡ Some next → Reached next (words ++ word ∷ [])
+unfolding opb_step_at ReachedAt
 next_at Start b next words word s e = elim (bool_cases (is_goal word)) [
   | inl is ↦
       let same : Some (then_comes (Term part.Goal) b) ≡ Some next = sym (rw is refl) ∙ e in
@@ -262,7 +262,7 @@ reached_later : (later words : List (List ℕ)) (b last : Begun) → Reached b w
 unfolding follow
 reached_later [] words b last s e = subst (Reached last) (sym (append-nil words)) (subst (λ (c : Begun). Reached c words) (some_is e) s)
 reached_later (word ∷ later) words b last s e =
-    then_reached (step b word) last words word later (λ next is. next_at b.stage b next words word s is) (λ next r f. reached_later later (words ++ word ∷ []) next last r f) e
+    then_reached (opb_step b word) last words word later (λ next is. next_at b.stage b next words word s is) (λ next r f. reached_later later (words ++ word ∷ []) next last r f) e
 
 -- what words make of nothing is spelled by them
 pub reached : (words : List (List ℕ)) (last : Begun) → follow start words ≡ Some last → Reached last words

@@ -2,17 +2,17 @@
 use Rattle.std.proofs.Common.{◌≡◌, ℕ, ◌+◌, true, false, max, List, [], ◌∷◌, ◌++◌, Some, None, Result, Ok, Err, refl, ap, ◌∙◌, arith}
 use Rattle.sat_text.specs.Words.{PlacedWord, words_on}
 use Rattle.opb_text.specs.Words.{is_opb_comment, line_words, opb_text_words}
-use Rattle.opb_text.specs.Reading.{Begun, step, run}
+use Rattle.opb_text.specs.Reading.{Begun, opb_step, run}
 
 -- a word that is taken
-pub run_takes : (b next : Begun) (number : ℕ) (found after : List (List ℕ)) (word : List ℕ) (later : List PlacedWord) → found ≡ word ∷ after → step b word ≡ Some next
+pub run_takes : (b next : Begun) (number : ℕ) (found after : List (List ℕ)) (word : List ℕ) (later : List PlacedWord) → found ≡ word ∷ after → opb_step b word ≡ Some next
     → run b (words_on number found ++ later) ≡ run next (words_on number after ++ later)
 unfolding run
 run_takes b next number found after word later is e =
     ap (λ (ws : List (List ℕ)). run b (words_on number ws ++ later)) is ∙ rw e refl
 
 -- a word that is wrong
-pub run_stops : (b : Begun) (number : ℕ) (found after : List (List ℕ)) (word : List ℕ) (later : List PlacedWord) → found ≡ word ∷ after → step b word ≡ None
+pub run_stops : (b : Begun) (number : ℕ) (found after : List (List ℕ)) (word : List ℕ) (later : List PlacedWord) → found ≡ word ∷ after → opb_step b word ≡ None
     → run b (words_on number found ++ later) ≡ Err number
 unfolding run
 run_stops b number found after word later is e =

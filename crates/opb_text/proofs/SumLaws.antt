@@ -16,8 +16,8 @@ use Rattle.ep_flat.specs.Cons.{number_at}
 use Rattle.opb_text.specs.declared.content.OpbTerm.{OpbTerm}
 use Rattle.opb_text.specs.Flats.{truths_of}
 use Rattle.opb_text.specs.Solutions.{literal_value, terms_total}
-use Rattle.opb_text.specs.Sums.{AreTruthsOf, PartsComeTo, IsFactorValue, base_of, coefficient_of, IsSumOf, IsTruth, NamesUpTo, TakesInPart, parts_size, opb_parts_total}
-use Rattle.opb_text.specs.Weights.{factors_size}
+use Rattle.opb_text.specs.Sums.{AreBitsOf, PartsComeTo, IsFactorValue, base_of, coefficient_of, IsSumOf, IsBit, NamesUpTo, TakesInPart, parts_reach, opb_parts_total}
+use Rattle.opb_text.specs.Weights.{factors_reach}
 
 -- ---- sums
 
@@ -56,13 +56,13 @@ truths_at (x ∷ vars) (v ∷ values) (suc place) var up lt long is =
     let other : eqb x var ≡ false = grind (arith, nat_tests) in
     rw other (truths_at vars values place var (λ i j d low high. up (suc i) (suc j) d (omega arith) (omega arith)) (omega (arith, lt)) (omega (arith, long)) is)
 
-pub truth_is : (n : ℤ) → IsTruth n → of_bool (is_one n) ≡ n
+pub truth_is : (n : ℤ) → IsBit n → of_bool (is_one n) ≡ n
 unfolding of_bool is_one
 truth_is n (inl is) = subst (λ (m : ℤ). of_bool (is_one m) ≡ m) (sym is) refl
 truth_is n (inr is) = subst (λ (m : ℤ). of_bool (is_one m) ≡ m) (sym is) refl
 
 -- the number of a variable is 0 or 1, also of one that isn't there
-pub truth_at : (values : List ℤ) (place : ℕ) → All IsTruth values → IsTruth (number_at values place)
+pub truth_at : (values : List ℤ) (place : ℕ) → All IsBit values → IsBit (number_at values place)
 unfolding number_at
 truth_at [] place all = inl refl
 truth_at (v ∷ values) zero all = all 0 (pos 0) (omega arith)
@@ -73,21 +73,21 @@ truth_at (v ∷ values) (suc place) all = truth_at values place (λ k d lt. all 
 plain_worth : (truths : ℕ → Bool) (t : OpbTerm) (n : ℤ) → t.negated ≡ false → of_bool (truths t.var) ≡ n → (t.factor *ℤ literal_value truths t) ≡ (t.factor *ℤ n)
 plain_worth truths t n plain is = rw plain (ap (λ (m : ℤ). t.factor *ℤ m) is)
 
-other_worth : (f n : ℤ) → IsTruth n → (f *ℤ (pos 1 -ℤ n)) ≡ (f +ℤ (neg_ℤ f *ℤ n))
+other_worth : (f n : ℤ) → IsBit n → (f *ℤ (pos 1 -ℤ n)) ≡ (f +ℤ (neg_ℤ f *ℤ n))
 other_worth f n (inl is) = subst (λ (m : ℤ). (f *ℤ (pos 1 -ℤ m)) ≡ (f +ℤ (neg_ℤ f *ℤ m))) (sym is) (omega (arith, ints))
 other_worth f n (inr is) = subst (λ (m : ℤ). (f *ℤ (pos 1 -ℤ m)) ≡ (f +ℤ (neg_ℤ f *ℤ m))) (sym is) (omega (arith, ints))
 
-negated_worth : (truths : ℕ → Bool) (t : OpbTerm) (n : ℤ) → t.negated ≡ true → of_bool (truths t.var) ≡ n → IsTruth n → (t.factor *ℤ literal_value truths t) ≡ (t.factor +ℤ (neg_ℤ t.factor *ℤ n))
+negated_worth : (truths : ℕ → Bool) (t : OpbTerm) (n : ℤ) → t.negated ≡ true → of_bool (truths t.var) ≡ n → IsBit n → (t.factor *ℤ literal_value truths t) ≡ (t.factor +ℤ (neg_ℤ t.factor *ℤ n))
 negated_worth truths t n negated is truth = rw negated (ap (λ (m : ℤ). t.factor *ℤ (pos 1 -ℤ m)) is ∙ other_worth t.factor n truth)
 
-number_there : (vars : List ℕ) (values : List ℤ) (place var : ℕ) → AreTruthsOf vars values → AllPairs ◌<◌ vars → place < length vars → get_or vars place 0 ≡ var → of_bool (truths_of vars values var) ≡ number_at values place
+number_there : (vars : List ℕ) (values : List ℤ) (place var : ℕ) → AreBitsOf vars values → AllPairs ◌<◌ vars → place < length vars → get_or vars place 0 ≡ var → of_bool (truths_of vars values var) ≡ number_at values place
 number_there vars values place var are up lt is =
-    ap of_bool (truths_at vars values place var up lt are.long is) ∙ truth_is (number_at values place) (truth_at values place are.truths)
+    ap of_bool (truths_at vars values place var up lt are.long is) ∙ truth_is (number_at values place) (truth_at values place are.bits)
 
-size_push : (parts : List (ℤ × ℕ)) (p : ℤ × ℕ) → parts_size (parts ++ p ∷ []) ≡ parts_size parts + unsigned_abs p.0
+size_push : (parts : List (ℤ × ℕ)) (p : ℤ × ℕ) → parts_reach (parts ++ p ∷ []) ≡ parts_reach parts + unsigned_abs p.0
 size_push parts p = sum_by_push (λ (q : ℤ × ℕ). unsigned_abs q.0) parts p
 
-factors_push : (terms : List OpbTerm) (t : OpbTerm) → factors_size (terms ++ t ∷ []) ≡ factors_size terms + unsigned_abs t.factor
+factors_push : (terms : List OpbTerm) (t : OpbTerm) → factors_reach (terms ++ t ∷ []) ≡ factors_reach terms + unsigned_abs t.factor
 factors_push terms t = sum_by_push (λ (u : OpbTerm). unsigned_abs u.factor) terms t
 
 abs_sum : (a b : ℤ) → unsigned_abs (a +ℤ b) ≤ unsigned_abs a + unsigned_abs b
@@ -117,7 +117,7 @@ pub sum_negated : (vars : List ℕ) (terms : List OpbTerm) (t : OpbTerm) (parts 
 sum_negated vars terms t parts constant place up lt is negated s = record {
   value = λ values are.
       let number = number_at values place in
-      let one = terms_push (truths_of vars values) terms t ∙ ap (λ (n : ℤ). terms_total (truths_of vars values) terms +ℤ n) (negated_worth (truths_of vars values) t number negated (number_there vars values place t.var are up lt is) (truth_at values place are.truths)) in
+      let one = terms_push (truths_of vars values) terms t ∙ ap (λ (n : ℤ). terms_total (truths_of vars values) terms +ℤ n) (negated_worth (truths_of vars values) t number negated (number_there vars values place t.var are up lt is) (truth_at values place are.bits)) in
       let other = total_push values parts (neg_ℤ t.factor, place) in
       let before = s.value values are in
       omega (arith, ints, one, other, before);
@@ -127,12 +127,12 @@ sum_negated vars terms t parts constant place up lt is negated s = record {
 }
 
 -- the factors up to a place, and one more, are no more than all
-pub size_more : (terms : List OpbTerm) (i : ℕ) (d : OpbTerm) → i < length terms → factors_size (take (i + 1) terms) ≡ factors_size (take i terms) + unsigned_abs (get_or terms i d).factor
-size_more terms i d lt = ap factors_size (take_more terms i d lt) ∙ factors_push (take i terms) (get_or terms i d)
+pub size_more : (terms : List OpbTerm) (i : ℕ) (d : OpbTerm) → i < length terms → factors_reach (take (i + 1) terms) ≡ factors_reach (take i terms) + unsigned_abs (get_or terms i d).factor
+size_more terms i d lt = ap factors_reach (take_more terms i d lt) ∙ factors_push (take i terms) (get_or terms i d)
 
-pub size_front : (i : ℕ) (terms : List OpbTerm) → factors_size (take i terms) ≤ factors_size terms
+pub size_front : (i : ℕ) (terms : List OpbTerm) → factors_reach (take i terms) ≤ factors_reach terms
 size_front i terms =
-    let whole = ap factors_size (sym (take-append-drop i terms)) ∙ sum_by-append (λ (u : OpbTerm). unsigned_abs u.factor) (take i terms) (drop i terms) in omega (arith, whole)
+    let whole = ap factors_reach (sym (take-append-drop i terms)) ∙ sum_by-append (λ (u : OpbTerm). unsigned_abs u.factor) (take i terms) (drop i terms) in omega (arith, whole)
 
 -- one more term is its part and its base
 pub sum_more : (vars : List ℕ) (terms : List OpbTerm) (t : OpbTerm) (parts : List (ℤ × ℕ)) (constant : ℤ) (place : ℕ) → AllPairs ◌<◌ vars → place < length vars → get_or vars place 0 ≡ t.var
@@ -162,7 +162,7 @@ sum_step vars all i d parts constant next new coefficient place up lt below is c
     (subst (IsSumOf vars (take i all ++ get_or all i d ∷ []) (parts ++ (coefficient_of (get_or all i d), place) ∷ [])) (sym m) made))
 
 -- the base of one more term keeps the sum small
-pub base_small : (all : List OpbTerm) (i : ℕ) (d : OpbTerm) (constant : ℤ) → i < length all → unsigned_abs constant ≤ factors_size (take i all) → factors_size all ≤ 1099511627776
+pub base_small : (all : List OpbTerm) (i : ℕ) (d : OpbTerm) (constant : ℤ) → i < length all → unsigned_abs constant ≤ factors_reach (take i all) → factors_reach all ≤ 1099511627776
     → unsigned_abs constant + unsigned_abs (base_of (get_or all i d)) ≤ 1099511627776
 base_small all i d constant lt near small =
     let step = size_more all i d lt in
@@ -177,7 +177,7 @@ base_small all i d constant lt near small =
         by true e = rw e (omega arith)
         by false e = rw e (omega arith)
 
-pub factor_small : (all : List OpbTerm) (i : ℕ) (d : OpbTerm) → i < length all → factors_size all ≤ 1099511627776 → unsigned_abs (get_or all i d).factor ≤ 1099511627776
+pub factor_small : (all : List OpbTerm) (i : ℕ) (d : OpbTerm) → i < length all → factors_reach all ≤ 1099511627776 → unsigned_abs (get_or all i d).factor ≤ 1099511627776
 factor_small all i d lt small =
     let step = size_more all i d lt in let front = size_front (i + 1) all in omega (arith, step, front, small)
 
@@ -199,7 +199,7 @@ takes_push parts p = record {
   size = let a = size_push parts p in omega (arith, a);
 }
 
-two_worths : (a b n : ℤ) → IsTruth n → ((a +ℤ b) *ℤ n) ≡ ((a *ℤ n) +ℤ (b *ℤ n))
+two_worths : (a b n : ℤ) → IsBit n → ((a +ℤ b) *ℤ n) ≡ ((a *ℤ n) +ℤ (b *ℤ n))
 two_worths a b n (inl is) = subst (λ (m : ℤ). ((a +ℤ b) *ℤ m) ≡ ((a *ℤ m) +ℤ (b *ℤ m))) (sym is) (omega (arith, ints))
 two_worths a b n (inr is) = subst (λ (m : ℤ). ((a +ℤ b) *ℤ m) ≡ ((a *ℤ m) +ℤ (b *ℤ m))) (sym is) (omega (arith, ints))
 
@@ -240,9 +240,9 @@ comes_more parts old new p comes takes = record {
   size = let c = size_push parts p in omega (arith, takes.size, comes.size, c);
 }
 
-pub parts_front : (i : ℕ) (parts : List (ℤ × ℕ)) → parts_size (take i parts) ≤ parts_size parts
+pub parts_front : (i : ℕ) (parts : List (ℤ × ℕ)) → parts_reach (take i parts) ≤ parts_reach parts
 parts_front i parts =
-    let whole = ap parts_size (sym (take-append-drop i parts)) ∙ sum_by-append (λ (q : ℤ × ℕ). unsigned_abs q.0) (take i parts) (drop i parts) in omega (arith, whole)
+    let whole = ap parts_reach (sym (take-append-drop i parts)) ∙ sum_by-append (λ (q : ℤ × ℕ). unsigned_abs q.0) (take i parts) (drop i parts) in omega (arith, whole)
 
 -- the same of what the code leaves
 pub takes_alone : (part : ℤ × ℕ) (old popped new : List (ℤ × ℕ)) → old ≡ popped ++ [] → new ≡ popped ++ part ∷ [] → TakesInPart part old new
@@ -258,18 +258,18 @@ pub takes_behind : (part last : ℤ × ℕ) (old popped kept new : List (ℤ × 
 takes_behind part last old popped kept new a b e =
     subst (λ (ps : List (ℤ × ℕ)). TakesInPart part ps new) (b ∙ sym a) (subst (TakesInPart part kept) (sym e) (takes_push kept part))
 
-pub last_small : (part last : ℤ × ℕ) (old popped : List (ℤ × ℕ)) → old ≡ popped ++ last ∷ [] → parts_size old + unsigned_abs part.0 ≤ 1099511627776 → unsigned_abs last.0 + unsigned_abs part.0 ≤ 1099511627776
+pub last_small : (part last : ℤ × ℕ) (old popped : List (ℤ × ℕ)) → old ≡ popped ++ last ∷ [] → parts_reach old + unsigned_abs part.0 ≤ 1099511627776 → unsigned_abs last.0 + unsigned_abs part.0 ≤ 1099511627776
 last_small part last old popped a small =
-    let size = ap parts_size a ∙ size_push popped last in omega (arith, size, small)
+    let size = ap parts_reach a ∙ size_push popped last in omega (arith, size, small)
 
 -- one more part of a list
 pub comes_step : (all : List (ℤ × ℕ)) (i : ℕ) (d : ℤ × ℕ) (old new : List (ℤ × ℕ)) → i < length all → PartsComeTo (take i all) old → TakesInPart (get_or all i d) old new → PartsComeTo (take (i + 1) all) new
 comes_step all i d old new lt comes takes =
     subst (λ (ps : List (ℤ × ℕ)). PartsComeTo ps new) (sym (take_more all i d lt)) (comes_more (take i all) old new (get_or all i d) comes takes)
 
-pub part_small : (all : List (ℤ × ℕ)) (i : ℕ) (d : ℤ × ℕ) (old : List (ℤ × ℕ)) → i < length all → parts_size old ≤ parts_size (take i all) → parts_size all ≤ 1099511627776 → parts_size old + unsigned_abs (get_or all i d).0 ≤ 1099511627776
+pub part_small : (all : List (ℤ × ℕ)) (i : ℕ) (d : ℤ × ℕ) (old : List (ℤ × ℕ)) → i < length all → parts_reach old ≤ parts_reach (take i all) → parts_reach all ≤ 1099511627776 → parts_reach old + unsigned_abs (get_or all i d).0 ≤ 1099511627776
 part_small all i d old lt near small =
-    let step = ap parts_size (take_more all i d lt) ∙ size_push (take i all) (get_or all i d) in
+    let step = ap parts_reach (take_more all i d lt) ∙ size_push (take i all) (get_or all i d) in
     let front = parts_front (i + 1) all in
     omega (arith, step, front, near, small)
 
@@ -308,13 +308,13 @@ total_permuted values parts others moved =
 -- the sum of terms is that of parts in another order, joined
 pub sum_joined : (vars : List ℕ) (terms : List OpbTerm) (parts others joined : List (ℤ × ℕ)) (constant : ℤ) → IsSumOf vars terms parts constant → IsPermutation parts others → PartsComeTo others joined → IsSumOf vars terms joined constant
 sum_joined vars terms parts others joined constant s moved comes = record {
-  value = λ values are. s.value values are ∙ ap (λ (n : ℤ). n +ℤ constant) (sym (comes.value values are.truths ∙ total_permuted values parts others moved));
+  value = λ values are. s.value values are ∙ ap (λ (n : ℤ). n +ℤ constant) (sym (comes.value values are.bits ∙ total_permuted values parts others moved));
   names = comes.names (length vars) (All-permutation (λ (q : ℤ × ℕ). q.1 < length vars) parts others moved s.names);
   size = let same = sum_by-IsPermutation (λ (q : ℤ × ℕ). unsigned_abs q.0) parts others moved in omega (arith, same, comes.size, s.size);
   constant_size = s.constant_size;
 }
 
-pub permuted_size : (parts others : List (ℤ × ℕ)) → IsPermutation parts others → parts_size others ≡ parts_size parts
+pub permuted_size : (parts others : List (ℤ × ℕ)) → IsPermutation parts others → parts_reach others ≡ parts_reach parts
 permuted_size parts others moved = sum_by-IsPermutation (λ (q : ℤ × ℕ). unsigned_abs q.0) parts others moved
 
 -- ---- bounds

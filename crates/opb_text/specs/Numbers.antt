@@ -11,14 +11,14 @@ signed_number_of (b ∷ word) =
     else option_map (λ n. pos n) (natural_of (b ∷ word))
 
 -- a number of at least 1
-abbrev pub positive : Option ℕ → Option ℕ
-positive None = None
-positive (Some n) = if nat_lt 0 n then Some n else None
+abbrev pub at_least_one : Option ℕ → Option ℕ
+at_least_one None = None
+at_least_one (Some n) = if nat_lt 0 n then Some n else None
 
 -- The variable that a word spells: an `x`, and one to eighteen digits, whose number is its number and at least 1.
 abbrev pub variable_of : List ℕ → Option ℕ
 variable_of [] = None
-variable_of (b ∷ digits) = if b == 120 then positive (natural_of digits) else None
+variable_of (b ∷ digits) = if b == 120 then at_least_one (natural_of digits) else None
 
 -- The literal that a word spells: whether it is negated, which a `~` says, and its variable.
 abbrev pub opb_literal_of : List ℕ → Option (Bool × ℕ)

@@ -91,21 +91,21 @@ with_row equal right b = record {
 }
 
 -- the end of a constraint
-abbrev pub at_end : Bool → ℤ → Begun → List ℕ → Option Begun
-at_end equal right b word = if is_end word then Some (with_row equal right b) else None
+abbrev pub at_row_end : Bool → ℤ → Begun → List ℕ → Option Begun
+at_row_end equal right b word = if is_end word then Some (with_row equal right b) else None
 
 -- what the next word makes of what was read, by what may come next; nothing where it is wrong
-unfoldable pub step_at : Stage → Begun → List ℕ → Option Begun
-step_at Start b word = at_start b word
-step_at (Term Goal) b word = at_goal_term b word
-step_at (Term Row) b word = at_row_term b word
-step_at (Literal part factor) b word = at_literal part factor b word
-step_at (Right equal) b word = at_right equal b word
-step_at (End equal right) b word = at_end equal right b word
+unfoldable pub opb_step_at : Stage → Begun → List ℕ → Option Begun
+opb_step_at Start b word = at_start b word
+opb_step_at (Term Goal) b word = at_goal_term b word
+opb_step_at (Term Row) b word = at_row_term b word
+opb_step_at (Literal part factor) b word = at_literal part factor b word
+opb_step_at (Right equal) b word = at_right equal b word
+opb_step_at (End equal right) b word = at_row_end equal right b word
 
 -- what the next word makes of what was read; nothing where it is wrong
-abbrev pub step : Begun → List ℕ → Option Begun
-step b word = step_at b.stage b word
+abbrev pub opb_step : Begun → List ℕ → Option Begun
+opb_step b word = opb_step_at b.stage b word
 
 -- whether there are no terms
 abbrev pub has_none : List OpbTerm → Bool
@@ -132,7 +132,7 @@ go_on line (Some b) rest = rest b
 -- what words make of what was read, or the line of the first wrong one
 unfoldable pub run : Begun → List PlacedWord → Result Begun ℕ
 run b [] = Ok b
-run b (word ∷ later) = go_on word.line (step b word.bytes) (λ next. run next later)
+run b (word ∷ later) = go_on word.line (opb_step b word.bytes) (λ next. run next later)
 
 -- ---- what a reader answers
 

@@ -9,16 +9,16 @@ use Rattle.opb_text.specs.declared.content.OpbTerm.{OpbTerm}
 use Rattle.opb_text.specs.Contents.{OpbConstraint}
 use Rattle.opb_text.specs.Flats.{truths_of}
 use Rattle.opb_text.specs.Solutions.{RowHolds, terms_total}
-use Rattle.opb_text.specs.Weights.{factors_size}
+use Rattle.opb_text.specs.Weights.{factors_reach}
 
 -- a number is 0 or 1
-abbrev pub IsTruth : ℤ → Type 0
-IsTruth number = (number ≡ pos 0) ⊎ (number ≡ pos 1)
+abbrev pub IsBit : ℤ → Type 0
+IsBit number = (number ≡ pos 0) ⊎ (number ≡ pos 1)
 
 -- numbers of some variables, each 0 or 1
-pub record AreTruthsOf (vars : List ℕ) (values : List ℤ) : Type 0 where
+pub record AreBitsOf (vars : List ℕ) (values : List ℤ) : Type 0 where
   pub long : length values ≡ length vars
-  pub truths : All IsTruth values
+  pub bits : All IsBit values
 
 -- the flat variables with coefficients, each with its number
 abbrev pub weighed_part : List ℤ → ℤ × ℕ → ℤ × ℤ
@@ -29,8 +29,8 @@ abbrev pub opb_parts_total : List ℤ → List (ℤ × ℕ) → ℤ
 opb_parts_total values parts = weighted_sum (map (weighed_part values) parts)
 
 -- the absolute values of coefficients, added up
-abbrev pub parts_size : List (ℤ × ℕ) → ℕ
-parts_size parts = sum_by (λ p. unsigned_abs p.0) parts
+abbrev pub parts_reach : List (ℤ × ℕ) → ℕ
+parts_reach parts = sum_by (λ p. unsigned_abs p.0) parts
 
 -- each variable is one of so many
 abbrev pub NamesUpTo : ℕ → List (ℤ × ℕ) → Type 0
@@ -38,22 +38,22 @@ NamesUpTo count parts = All (λ p. p.1 < count) parts
 
 -- flat variables and a number add up to what terms do
 pub record IsSumOf (vars : List ℕ) (terms : List OpbTerm) (parts : List (ℤ × ℕ)) (constant : ℤ) : Type 0 where
-  pub value : (values : List ℤ) → AreTruthsOf vars values → terms_total (truths_of vars values) terms ≡ (opb_parts_total values parts +ℤ constant)
+  pub value : (values : List ℤ) → AreBitsOf vars values → terms_total (truths_of vars values) terms ≡ (opb_parts_total values parts +ℤ constant)
   pub names : NamesUpTo (length vars) parts
-  pub size : parts_size parts ≤ factors_size terms
-  pub constant_size : unsigned_abs constant ≤ factors_size terms
+  pub size : parts_reach parts ≤ factors_reach terms
+  pub constant_size : unsigned_abs constant ≤ factors_reach terms
 
 -- a part came to others: they come to as much more
 pub record TakesInPart (part : ℤ × ℕ) (old new : List (ℤ × ℕ)) : Type 0 where
-  pub value : (values : List ℤ) → All IsTruth values → opb_parts_total values new ≡ (opb_parts_total values old +ℤ (part.0 *ℤ number_at values part.1))
+  pub value : (values : List ℤ) → All IsBit values → opb_parts_total values new ≡ (opb_parts_total values old +ℤ (part.0 *ℤ number_at values part.1))
   pub names : (count : ℕ) → NamesUpTo count old → part.1 < count → NamesUpTo count new
-  pub size : parts_size new ≤ parts_size old + unsigned_abs part.0
+  pub size : parts_reach new ≤ parts_reach old + unsigned_abs part.0
 
 -- parts come to the same as others, and are no larger
 pub record PartsComeTo (old new : List (ℤ × ℕ)) : Type 0 where
-  pub value : (values : List ℤ) → All IsTruth values → opb_parts_total values new ≡ opb_parts_total values old
+  pub value : (values : List ℤ) → All IsBit values → opb_parts_total values new ≡ opb_parts_total values old
   pub names : (count : ℕ) → NamesUpTo count old → NamesUpTo count new
-  pub size : parts_size new ≤ parts_size old
+  pub size : parts_reach new ≤ parts_reach old
 
 -- each term's variable is one of these
 abbrev pub AreNamed : List ℕ → List OpbTerm → Type 0
@@ -61,7 +61,7 @@ AreNamed vars terms = All (λ t. Contains vars t.var) terms
 
 -- a flat constraint that holds exactly where a constraint does
 pub record IsConOf (vars : List ℕ) (row : OpbConstraint) (con : FlatCon) : Type 0 where
-  pub holds : (values more : List ℤ) → AreTruthsOf vars values → IsTrue (con_holds (values ++ more) con) ↔ RowHolds (truths_of vars values) row
+  pub holds : (values more : List ℤ) → AreBitsOf vars values → IsTrue (con_holds (values ++ more) con) ↔ RowHolds (truths_of vars values) row
   pub names : NamesBelow (length vars) con
   pub small : HasSmallCoefficients con
 
@@ -75,7 +75,7 @@ pub record IsSpan (low high : ℤ) (domain : List ℤ) : Type 0 where
 
 -- a flat constraint that holds exactly where the variable behind these has the value of terms
 pub record IsGoalCon (vars : List ℕ) (terms : List OpbTerm) (con : FlatCon) : Type 0 where
-  pub holds : (values : List ℤ) (number : ℤ) → AreTruthsOf vars values
+  pub holds : (values : List ℤ) (number : ℤ) → AreBitsOf vars values
       → IsTrue (con_holds (values ++ number ∷ []) con) ↔ (number ≡ terms_total (truths_of vars values) terms)
   pub names : NamesBelow (length vars + 1) con
   pub small : HasSmallCoefficients con

@@ -3,6 +3,10 @@ use Rattle.std.specs.Prelude.{◌≡◌, ◌<◌, ◌≤◌, take, drop, length,
 use Rattle.std.specs.List.{slice_split, flat_map}
 use Rattle.sat_text.specs.Words.{lines, is_between_words, PlacedWord, words_on}
 
+-- the greatest number of bytes of a text that is read
+abbrev pub most_opb_bytes : ℕ
+most_opb_bytes = 16777216
+
 -- whether a byte is a sign by itself: `;` or `=`
 abbrev pub is_sign_byte : ℕ → Bool
 is_sign_byte b = b == 59 || b == 61

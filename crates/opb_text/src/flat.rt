@@ -4,10 +4,9 @@ ghost use Rattle.std.specs.Prelude.{◌≡◌, ◌<◌, ◌<ℤ◌, ◌≤◌, �
 ghost use Rattle.std.specs.List.{AllPairs};
 ghost use Rattle.ep_base.specs.declared.operators.CompareOp.{CompareOp};
 ghost use Rattle.ep_flat.specs.FlatViews.{plain_con, plain_flat};
-ghost use Rattle.opb_text.specs.declared.measure.TheConstants.{MOST_REACH};
 ghost use Rattle.opb_text.specs.Contents.{OpbConstraint};
 ghost use Rattle.opb_text.specs.Views.{plain_opb, plain_row};
-ghost use Rattle.opb_text.specs.Weights.{IsProblemWithinReach, factors_size, row_size};
+ghost use Rattle.opb_text.specs.Weights.{IsProblemWithinReach, factors_reach, row_reach, most_reach};
 ghost use Rattle.opb_text.specs.Flats.{StandsFor, truth_domains, truth_numbers};
 ghost use Rattle.opb_text.specs.Sums.{AreConsOf, AreNamed, AreNamedRows, GoesOnWith, IsConOf, IsGoalCon, IsSpan, compared};
 
@@ -57,7 +56,7 @@ fn truth_domains(alloc: Global, vars: &[u64]) -> Result<Vec<Runs>, Memory>
 
 /// What is left of a number.
 fn less(whole: i64, part: i64) -> i64
-    requires { unsigned_abs whole + unsigned_abs part ≤ MOST_REACH }
+    requires { unsigned_abs whole + unsigned_abs part ≤ most_reach }
     ensures { result ≡ whole -ℤ part }
 {
     whole - part
@@ -78,7 +77,7 @@ fn comparison(equal: bool) -> CompareOp
 fn row_con(alloc: Global, vars: &[u64], row: &OpbRow) -> Result<Con, Memory>
     requires ascending { AllPairs ◌<◌ vars.now }
     requires named { AreNamed vars.now row.now.terms.items }
-    requires small { row_size (plain_row row.now) ≤ MOST_REACH }
+    requires small { row_reach (plain_row row.now) ≤ most_reach }
     ensures { IfOk result (λ con. IsConOf vars.now (plain_row row.now) (plain_con con)) }
 {
     let sum = sum_of(alloc, vars, &row.terms)?;
@@ -93,7 +92,7 @@ fn row_con(alloc: Global, vars: &[u64], row: &OpbRow) -> Result<Con, Memory>
 fn row_cons(alloc: Global, vars: &[u64], rows: &[OpbRow]) -> Result<Vec<Con>, Memory>
     requires ascending { AllPairs ◌<◌ vars.now }
     requires named { AreNamedRows vars.now (map plain_row rows.now) }
-    requires small { All (λ row. row_size row ≤ MOST_REACH) (map plain_row rows.now) }
+    requires small { All (λ row. row_reach row ≤ most_reach) (map plain_row rows.now) }
     ensures { IfOk result (λ cons. AreConsOf vars.now (map plain_row rows.now) (map plain_con cons.items)) }
 {
     let mut cons = Vec::new(alloc);
@@ -108,7 +107,7 @@ fn row_cons(alloc: Global, vars: &[u64], rows: &[OpbRow]) -> Result<Vec<Con>, Me
 fn goal_con(alloc: Global, vars: &[u64], terms: &[OpbTerm]) -> Result<Con, Memory>
     requires ascending { AllPairs ◌<◌ vars.now }
     requires named { AreNamed vars.now terms.now }
-    requires small { factors_size terms.now ≤ MOST_REACH }
+    requires small { factors_reach terms.now ≤ most_reach }
     ensures { IfOk result (λ con. IsGoalCon vars.now terms.now (plain_con con)) }
 {
     let sum = sum_of(alloc, vars, terms)?;
@@ -125,7 +124,7 @@ fn goal_con(alloc: Global, vars: &[u64], terms: &[OpbTerm]) -> Result<Con, Memor
 fn add_goal(alloc: Global, vars: &[u64], terms: &[OpbTerm], flat: &mut Flat) -> Result<u64, Memory>
     requires ascending { AllPairs ◌<◌ vars.now }
     requires named { AreNamed vars.now terms.now }
-    requires small { factors_size terms.now ≤ MOST_REACH }
+    requires small { factors_reach terms.now ≤ most_reach }
     requires vars { length flat.old.vars.items ≡ length vars.now }
     ensures { IfOk result (λ goal. (goal ≡ length vars.now)
         × GoesOnWith vars.now terms.now (plain_flat flat.old) (plain_flat flat.new)) }

@@ -5,8 +5,7 @@ ghost use Rattle.ep_base.specs.declared.operators.Limit.TheVariants as limit;
 ghost use Rattle.ep_base.specs.Intervals.{sum_cost};
 ghost use Rattle.opb_text.specs.Contents.{objective_terms};
 ghost use Rattle.opb_text.specs.Views.{plain_opb, plain_row};
-ghost use Rattle.opb_text.specs.Weights.{IsProblemWithinReach, Weighs, factors_size, row_size, terms_cost, sums_cost};
-ghost use Rattle.opb_text.specs.declared.measure.TheConstants.{MOST_REACH, MOST_WEIGHT};
+ghost use Rattle.opb_text.specs.Weights.{IsProblemWithinReach, Weighs, factors_reach, row_reach, terms_cost, sums_cost, most_reach, most_weight};
 ghost use Rattle.opb_text.specs.declared.errors.OpbSizeError.TheVariants as refused;
 
 use crate::content::{Opb, OpbRow, OpbTerm, objective_terms};
@@ -22,7 +21,7 @@ pub const MOST_REACH: u64 = 1_099_511_627_776;
 pub const MOST_WEIGHT: u64 = 20_000_000;
 
 /// The absolute value of a term's factor.
-fn factor_size(term: &OpbTerm) -> u128
+fn factor_reach(term: &OpbTerm) -> u128
     ensures value { result ≡ unsigned_abs term.now.factor }
     ensures small { result ≤ 2 ^ 63 }
 {
@@ -30,30 +29,30 @@ fn factor_size(term: &OpbTerm) -> u128
 }
 
 /// The absolute values of the factors of terms, added up.
-fn factors_size(terms: &[OpbTerm]) -> u128
-    ensures value { result ≡ factors_size terms.now }
+fn factors_reach(terms: &[OpbTerm]) -> u128
+    ensures value { result ≡ factors_reach terms.now }
     ensures small { result < 2 ^ 127 }
 {
     let mut size = 0u128;
     for term in terms {
-        size += factor_size(term);
+        size += factor_reach(term);
     }
     size
 }
 
 /// The absolute values of the factors of a constraint and of its right side, added up.
-fn row_size(row: &OpbRow) -> u128
-    ensures { result ≡ row_size (plain_row row.now) }
+fn row_reach(row: &OpbRow) -> u128
+    ensures { result ≡ row_reach (plain_row row.now) }
 {
-    factors_size(&row.terms) + u128::from(row.right.unsigned_abs())
+    factors_reach(&row.terms) + u128::from(row.right.unsigned_abs())
 }
 
 /// Whether no constraint reaches too far.
 fn are_within_reach(rows: &[OpbRow]) -> bool
-    ensures { IsTrue result ↔ All (λ row. row_size row ≤ MOST_REACH) (map plain_row rows.now) }
+    ensures { IsTrue result ↔ All (λ row. row_reach row ≤ most_reach) (map plain_row rows.now) }
 {
     for row in rows {
-        if row_size(row) > u128::from(MOST_REACH) {
+        if row_reach(row) > u128::from(MOST_REACH) {
             return false;
         }
     }
@@ -64,7 +63,7 @@ fn are_within_reach(rows: &[OpbRow]) -> bool
 fn is_within_reach(opb: &Opb) -> bool
     ensures { IsTrue result ↔ IsProblemWithinReach (plain_opb opb.now) }
 {
-    if factors_size(objective_terms(opb)) > u128::from(MOST_REACH) {
+    if factors_reach(objective_terms(opb)) > u128::from(MOST_REACH) {
         return false;
     }
     are_within_reach(&opb.rows)
@@ -72,11 +71,11 @@ fn is_within_reach(opb: &Opb) -> bool
 
 /// What a sum costs: rows of order literals for each partial sum, or binary adders, whichever is less.
 fn terms_cost(terms: &[OpbTerm]) -> u128
-    requires { factors_size terms.now ≤ MOST_REACH }
+    requires { factors_reach terms.now ≤ most_reach }
     ensures { result ≡ terms_cost terms.now }
 {
     let parts = terms.len() as u128;
-    let width = factors_size(terms) + 1;
+    let width = factors_reach(terms) + 1;
     let order = width * (2 * parts);
     let adders = 8 * (width + 2 * parts) + 1024 * parts;
     order.min(adders)
@@ -84,8 +83,8 @@ fn terms_cost(terms: &[OpbTerm]) -> u128
 
 /// A sum that is exact as far as the greatest weight, and else above it.
 fn capped_sum(weight: u64, more: u128) -> u64
-    requires { weight ≤ MOST_WEIGHT + 1 }
-    ensures { result ≡ min (weight + more) (MOST_WEIGHT + 1) }
+    requires { weight ≤ most_weight + 1 }
+    ensures { result ≡ min (weight + more) (most_weight + 1) }
 {
     let most = u128::from(MOST_WEIGHT) + 1;
     let sum = u128::from(weight).saturating_add(more);
@@ -96,7 +95,7 @@ fn capped_sum(weight: u64, more: u128) -> u64
 fn weight_of(opb: &Opb, vars: usize) -> u64
     requires few { vars < 2 ^ 63 }
     requires reach { IsProblemWithinReach (plain_opb opb.now) }
-    ensures { result ≡ min (2 * vars + sums_cost (plain_opb opb.now)) (MOST_WEIGHT + 1) }
+    ensures { result ≡ min (2 * vars + sums_cost (plain_opb opb.now)) (most_weight + 1) }
 {
     let mut weight = capped_sum(0, 2 * (vars as u128));
     weight = capped_sum(weight, terms_cost(objective_terms(opb)));
@@ -114,9 +113,9 @@ fn weight_of(opb: &Opb, vars: usize) -> u64
 /// right side add up to more than [`MOST_REACH`], and otherwise [`Limit::Weight`] exactly where the weight is over
 /// [`MOST_WEIGHT`].
 pub fn measure_opb(alloc: Global, opb: &Opb) -> Result<u64, OpbSizeError>
-    ensures weight { IfOk result (λ weight. IsProblemWithinReach (plain_opb opb.now) × Weighs (plain_opb opb.now) weight × (weight ≤ MOST_WEIGHT)) }
+    ensures weight { IfOk result (λ weight. IsProblemWithinReach (plain_opb opb.now) × Weighs (plain_opb opb.now) weight × (weight ≤ most_weight)) }
     ensures reach { result ≡ Err (refused.Limit limit.Reach) ↔ (IsProblemWithinReach (plain_opb opb.now) → ⊥) }
-    ensures over { result ≡ Err (refused.Limit limit.Weight) → IsProblemWithinReach (plain_opb opb.now) × (weight : ℕ) × Weighs (plain_opb opb.now) weight × (MOST_WEIGHT < weight) }
+    ensures over { result ≡ Err (refused.Limit limit.Weight) → IsProblemWithinReach (plain_opb opb.now) × (weight : ℕ) × Weighs (plain_opb opb.now) weight × (most_weight < weight) }
     ensures size { result ≡ Err (refused.Limit limit.Size) → ⊥ }
 {
     if !is_within_reach(opb) {

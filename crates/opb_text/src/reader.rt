@@ -1,7 +1,7 @@
 //! Takes the words of a text, one after another.
 
 ghost use Rattle.std.specs.Prelude.{◌≡◌};
-ghost use Rattle.opb_text.specs.Reading.{Takes, start, step, at_start, at_goal_term, at_row_term, at_literal, at_right, at_end, has_none, is_done, content_of};
+ghost use Rattle.opb_text.specs.Reading.{Takes, start, opb_step, at_start, at_goal_term, at_row_term, at_literal, at_right, at_row_end, has_none, is_done, content_of};
 ghost use Rattle.opb_text.specs.Views.{plain_reader, plain_opb};
 
 use crate::content::{Opb, OpbRow, OpbTerm};
@@ -95,9 +95,9 @@ pub(crate) fn content(reader: Reader) -> Opb
 }
 
 /// Takes the next word.
-#[tactic(auto, unfolding(crate::specs::Reading::step_at))]
+#[tactic(auto, unfolding(crate::specs::Reading::opb_step_at))]
 pub(crate) fn take_word(alloc: Global, reader: &mut Reader, word: &[u8]) -> Result<(), Fault>
-    ensures { Takes result (step (plain_reader reader.old) word.now) (plain_reader reader.new) }
+    ensures { Takes result (opb_step (plain_reader reader.old) word.now) (plain_reader reader.new) }
 {
     match reader.stage {
         Stage::Start => take_first(reader, word),
@@ -187,7 +187,7 @@ fn take_end(
     right: i64,
     word: &[u8],
 ) -> Result<(), Fault>
-    ensures { Takes result (at_end equal right (plain_reader reader.old) word.now) (plain_reader reader.new) }
+    ensures { Takes result (at_row_end equal right (plain_reader reader.old) word.now) (plain_reader reader.new) }
 {
     if !is_end(word) {
         return Err(Fault::Wrong);

@@ -2,10 +2,9 @@
 
 ghost use Rattle.std.specs.Prelude.{◌≡◌, ◌<◌, ◌^◌, ◌↔◌, ◌++◌, ℕ, List, length, Ok, Err, IfOk, MatchResult, IsErrOf};
 ghost use Rattle.sat_text.specs.Words.{last_line, words_on, PlacedWord};
-ghost use Rattle.opb_text.specs.Words.{placed_opb_words, line_words};
+ghost use Rattle.opb_text.specs.Words.{placed_opb_words, line_words, most_opb_bytes};
 ghost use Rattle.opb_text.specs.Contents.{OpbContent};
 ghost use Rattle.opb_text.specs.Grammar.{SpellsOpb, IsOpbFaultLine};
-ghost use Rattle.opb_text.specs.declared.reading.TheConstants.{MOST_BYTES};
 ghost use Rattle.opb_text.specs.Reading.{start, run, StopsRun};
 ghost use Rattle.opb_text.specs.Views.{plain_opb, plain_reader};
 
@@ -64,7 +63,7 @@ fn take_text(alloc: Global, text: &[u8]) -> Result<(Reader, u64), Stop>
 /// [`OpbError::TooLong`] exactly where the text has more than [`MOST_BYTES`] bytes, and otherwise [`OpbError::Bad`] exactly
 /// where it isn't in the grammar, with the line of the first word with which no text can go on, or else the text's last line.
 pub fn read_opb(alloc: Global, text: &[u8]) -> Result<Opb, OpbError>
-    ensures too_long { IsErrOf result OpbError.TooLong ↔ (MOST_BYTES < length text.now) }
+    ensures too_long { IsErrOf result OpbError.TooLong ↔ (most_opb_bytes < length text.now) }
     // What is read is what the text spells, and no text that spells a problem is refused as bad.
     ensures spelled { IfOk result (λ opb. SpellsOpb text.now (plain_opb opb)) }
     ensures complete { (content : OpbContent) → SpellsOpb text.now content → MatchResult result

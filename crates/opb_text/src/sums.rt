@@ -4,10 +4,9 @@ ghost use Rattle.std.specs.Prelude.{◌≡◌, ◌<◌, ◌≤◌, ◌≤ℤ◌,
 ghost use Rattle.std.specs.List.{AllPairs, Contains};
 ghost use Rattle.ep_base.specs.Reads.{IsWithinNumbers};
 ghost use Rattle.opb_text.specs.declared.content.OpbTerm.{OpbTerm};
-ghost use Rattle.opb_text.specs.declared.measure.TheConstants.{MOST_REACH};
 ghost use Rattle.opb_text.specs.Solutions.{terms_total};
-ghost use Rattle.opb_text.specs.Sums.{AreNamed, PartsComeTo, base_of, coefficient_of, IsFactorValue, IsSumOf, TakesInPart, parts_size};
-ghost use Rattle.opb_text.specs.Weights.{factors_size};
+ghost use Rattle.opb_text.specs.Sums.{AreNamed, PartsComeTo, base_of, coefficient_of, IsFactorValue, IsSumOf, TakesInPart, parts_reach};
+ghost use Rattle.opb_text.specs.Weights.{factors_reach, most_reach};
 
 use crate::content::OpbTerm;
 use ep_base::Memory;
@@ -37,7 +36,7 @@ fn place_of(vars: &[u64], var: u64) -> u64
 
 /// The sum of two numbers.
 fn added(a: i64, b: i64) -> i64
-    requires { unsigned_abs a + unsigned_abs b ≤ MOST_REACH }
+    requires { unsigned_abs a + unsigned_abs b ≤ most_reach }
     ensures { result ≡ a +ℤ b }
 {
     a + b
@@ -45,7 +44,7 @@ fn added(a: i64, b: i64) -> i64
 
 /// What the variable of a term is multiplied by. A negated literal counts its factor, less that of its variable.
 fn coefficient(term: &OpbTerm) -> i64
-    requires { unsigned_abs term.now.factor ≤ MOST_REACH }
+    requires { unsigned_abs term.now.factor ≤ most_reach }
     ensures { result ≡ coefficient_of term.now }
 {
     if term.negated {
@@ -80,7 +79,7 @@ pub(crate) fn push_part(
 fn spread(alloc: Global, vars: &[u64], terms: &[OpbTerm]) -> Result<Sum, Memory>
     requires ascending { AllPairs ◌<◌ vars.now }
     requires named { AreNamed vars.now terms.now }
-    requires small { factors_size terms.now ≤ MOST_REACH }
+    requires small { factors_reach terms.now ≤ most_reach }
     ensures { IfOk result (λ sum. IsSumOf vars.now terms.now sum.parts.items sum.constant) }
 {
     let mut parts = Vec::new(alloc);
@@ -95,7 +94,7 @@ fn spread(alloc: Global, vars: &[u64], terms: &[OpbTerm]) -> Result<Sum, Memory>
 
 /// Adds a coefficient to that of the last variable, where it is the same one.
 fn join_part(parts: &mut Vec<(i64, u64)>, part: (i64, u64)) -> Result<(), Memory>
-    requires { parts_size parts.old.items + unsigned_abs part.0 ≤ MOST_REACH }
+    requires { parts_reach parts.old.items + unsigned_abs part.0 ≤ most_reach }
     ensures { OnOk result (TakesInPart part parts.old.items parts.new.items) }
 {
     let Some(last) = parts.pop() else {
@@ -112,7 +111,7 @@ fn join_part(parts: &mut Vec<(i64, u64)>, part: (i64, u64)) -> Result<(), Memory
 
 /// Parts in which neighbors of one variable are joined.
 fn joined(alloc: Global, parts: &[(i64, u64)]) -> Result<Vec<(i64, u64)>, Memory>
-    requires { parts_size parts.now ≤ MOST_REACH }
+    requires { parts_reach parts.now ≤ most_reach }
     ensures { IfOk result (λ joined. PartsComeTo parts.now joined.items) }
 {
     let mut joined = Vec::new(alloc);
@@ -126,7 +125,7 @@ fn joined(alloc: Global, parts: &[(i64, u64)]) -> Result<Vec<(i64, u64)>, Memory
 pub(crate) fn sum_of(alloc: Global, vars: &[u64], terms: &[OpbTerm]) -> Result<Sum, Memory>
     requires ascending { AllPairs ◌<◌ vars.now }
     requires named { AreNamed vars.now terms.now }
-    requires small { factors_size terms.now ≤ MOST_REACH }
+    requires small { factors_reach terms.now ≤ most_reach }
     ensures { IfOk result (λ sum. IsSumOf vars.now terms.now sum.parts.items sum.constant) }
 {
     let sum = spread(alloc, vars, terms)?;
@@ -139,7 +138,7 @@ pub(crate) fn sum_of(alloc: Global, vars: &[u64], terms: &[OpbTerm]) -> Result<S
 
 /// A number that no sum is below, where it was so and a term with this factor came.
 fn lowered(least: i64, factor: i64) -> i64
-    requires { unsigned_abs least + unsigned_abs factor ≤ MOST_REACH }
+    requires { unsigned_abs least + unsigned_abs factor ≤ most_reach }
     ensures bound { (before value : ℤ) → least ≤ℤ before → IsFactorValue factor value → result ≤ℤ (before +ℤ value) }
     ensures near { unsigned_abs result ≤ unsigned_abs least + unsigned_abs factor }
 {
@@ -151,7 +150,7 @@ fn lowered(least: i64, factor: i64) -> i64
 
 /// A number that no value of terms is below.
 pub(crate) fn least(terms: &[OpbTerm]) -> i64
-    requires { factors_size terms.now ≤ MOST_REACH }
+    requires { factors_reach terms.now ≤ most_reach }
     ensures bound { (truths : ℕ → Bool) → result ≤ℤ terms_total truths terms.now }
     ensures near { IsWithinNumbers result }
 {
@@ -164,7 +163,7 @@ pub(crate) fn least(terms: &[OpbTerm]) -> i64
 
 /// A number that no sum is above, where it was so and a term with this factor came.
 fn raised(greatest: i64, factor: i64) -> i64
-    requires { unsigned_abs greatest + unsigned_abs factor ≤ MOST_REACH }
+    requires { unsigned_abs greatest + unsigned_abs factor ≤ most_reach }
     ensures bound { (before value : ℤ) → before ≤ℤ greatest → IsFactorValue factor value → (before +ℤ value) ≤ℤ result }
     ensures near { unsigned_abs result ≤ unsigned_abs greatest + unsigned_abs factor }
 {
@@ -176,7 +175,7 @@ fn raised(greatest: i64, factor: i64) -> i64
 
 /// A number that no value of terms is above.
 pub(crate) fn greatest(terms: &[OpbTerm]) -> i64
-    requires { factors_size terms.now ≤ MOST_REACH }
+    requires { factors_reach terms.now ≤ most_reach }
     ensures bound { (truths : ℕ → Bool) → terms_total truths terms.now ≤ℤ result }
     ensures near { IsWithinNumbers result }
 {

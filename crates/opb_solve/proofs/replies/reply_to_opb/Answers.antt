@@ -16,7 +16,7 @@ returns-clause-replies c = (
     right = c.in_ok-answer.ensures.right;
     logged = c.in_ok-answer.ensures.logged;
     text = c.in_ok-lines.ensures;
-    spent = c.is_spent-spent.ensures;
+    spent = c.says_spent-spent.ensures;
   },
 )
 

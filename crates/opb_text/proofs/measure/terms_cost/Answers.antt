@@ -4,4 +4,4 @@ use Rattle.opb_text.proofs.measure.terms_cost.Goals as goal
 
 pub returns : goal.returns
 unfolding sum_cost
-returns c = c.min.ensures ∙ ap (λ (n : ℕ). sum_cost (n + 1) (2 * length c.args.terms.now) (length c.args.terms.now)) c.factors_size-width.ensures.value
+returns c = c.min.ensures ∙ ap (λ (n : ℕ). sum_cost (n + 1) (2 * length c.args.terms.now) (length c.args.terms.now)) c.factors_reach-width.ensures.value

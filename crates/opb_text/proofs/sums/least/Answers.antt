@@ -3,10 +3,9 @@ use Rattle.std.specs.Prelude.{unsigned_abs}
 use Rattle.std.proofs.lemmas.Int.{to_z-of_z}
 use Rattle.std.proofs.lemmas.List.{take_all}
 use Rattle.opb_text.specs.declared.content.OpbTerm.{OpbTerm}
-use Rattle.opb_text.specs.declared.measure.TheConstants.{MOST_REACH}
 use Rattle.opb_text.specs.Solutions.{terms_total}
 use Rattle.opb_text.specs.Sums.{IsFactorValue}
-use Rattle.opb_text.specs.Weights.{factors_size}
+use Rattle.opb_text.specs.Weights.{factors_reach, most_reach}
 use Rattle.opb_text.proofs.SumLaws.{least_more, no_term, size_front, size_more, total_none_low, within_numbers}
 use Rattle.opb_text.proofs.sums.least.Goals as goal
 
@@ -20,7 +19,7 @@ lowered-least-requires c =
     let f : to_z w64 (of_z w64 t.factor) ≡ t.factor = to_z-of_z w64 t.factor (search rules) in
     let step = size_more c.args.terms.now i no_term c.loop-term-test.true in
     let front = size_front (i + 1) c.args.terms.now in
-    subst (λ (z : ℤ). unsigned_abs (to_z w64 c.loop-term.least-bits) + unsigned_abs z ≤ MOST_REACH) (sym f) (omega (arith, c.loop-term.invariant.1, step, front, c.requires))
+    subst (λ (z : ℤ). unsigned_abs (to_z w64 c.loop-term.least-bits) + unsigned_abs z ≤ most_reach) (sym f) (omega (arith, c.loop-term.invariant.1, step, front, c.requires))
 
 pub loop-term-preserved : goal.loop-term-preserved
 loop-term-preserved c =
@@ -33,7 +32,7 @@ loop-term-preserved c =
       λ truths. subst (λ (z : ℤ). z ≤ℤ terms_total truths (take (i + 1) c.args.terms.now)) (sym r)
           (least_more c.args.terms.now i no_term (to_z w64 c.loop-term.least-bits) c.lowered-least.result c.loop-term-test.true c.loop-term.invariant.0
           (λ before value le v. c.lowered-least.ensures.bound before value le (subst (λ (z : ℤ). IsFactorValue z value) (sym f) v)) truths),
-      subst (λ (z : ℤ). unsigned_abs z ≤ factors_size (take (i + 1) c.args.terms.now)) (sym r) (omega (arith, c.loop-term.invariant.1, step, near)),
+      subst (λ (z : ℤ). unsigned_abs z ≤ factors_reach (take (i + 1) c.args.terms.now)) (sym r) (omega (arith, c.loop-term.invariant.1, step, near)),
     )
 
 pub returns : goal.returns
