@@ -2,6 +2,7 @@
 
 ghost use Rattle.std.specs.Prelude.{◌≡◌, [], ◌∷◌, ◌++◌, OnOk, OnErr};
 ghost use Rattle.cnf_core.specs.Lines.{add, delete};
+ghost use Rattle.cnf_core.specs.Literal.{IsClause};
 ghost use Rattle.sat_proof.specs.Lines.{plain_line, proof_lines, row_line};
 
 use crate::part::part;
@@ -116,8 +117,10 @@ impl Proof {
         }
     }
 
-    /// Appends a line that adds a clause. After want of memory the lines are as they were.
+    /// Appends a line that adds the clause of these literals, which are in order ([`crate::put_in_order`]). After
+    /// want of memory the lines are as they were.
     pub fn add(&mut self, id: u64, clause: &[Lit], hints: &[i64]) -> Result<(), Memory>
+        requires { IsClause clause.now }
         ensures ok { OnOk result (proof_lines self.new ≡ proof_lines self.old ++ add id clause.now hints.now ∷ []) }
         ensures err { OnErr result (proof_lines self.new ≡ proof_lines self.old) }
     {

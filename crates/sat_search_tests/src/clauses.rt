@@ -74,9 +74,9 @@ fn a_log_keeps_its_events_notes_and_base(rt: HostRuntime) -> Result<(), Fail> {
 #[test]
 fn a_proof_holds_lines(rt: HostRuntime) -> Result<(), Fail> {
     let mut proof = Proof::new(rt.alloc());
-    proof.add(5, &[Lit::new(1, true)], &[1, 2])?;
+    proof.add(5, clause(rt.alloc(), &[1])?.lits(), &[1, 2])?;
     proof.delete(&[1, 2])?;
-    proof.add(7, &[], &[5])?;
+    proof.add(7, clause(rt.alloc(), &[])?.lits(), &[5])?;
     match proof.rows() {
         [first, second, third] => {
             assert!(rt;

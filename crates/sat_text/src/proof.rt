@@ -1,7 +1,7 @@
 //! Reads the text of a proof.
 
 ghost use Rattle.std.specs.Prelude.{◌≡◌, ◌<◌, ◌↔◌, [], ℕ, List, length, Ok, Err, IfOk, MatchResult, IsErrOf};
-ghost use Rattle.cnf_core.specs.Literal.{HaveSameLiterals, IsOrdered};
+ghost use Rattle.cnf_core.specs.Literal.{HaveSameLiterals, IsClause, IsOrdered};
 ghost use Rattle.sat_text.specs.Words.{words, says_nothing, most_text_bytes};
 ghost use Rattle.sat_text.specs.Clauses.{in_order};
 ghost use Rattle.sat_text.specs.Proofs.{is_d, addition_at, deletion_at, behind_id, line_of, proof_of};
@@ -43,6 +43,7 @@ impl<T: Drop> From<AllocFailed<T>> for LogError {
 pub(crate) fn order(literals: &mut Vec<Lit>)
     ensures value { literals.new.items ≡ in_order literals.old.items }
     ensures ordered { IsOrdered literals.new.items }
+    ensures clause { IsClause literals.new.items }
     ensures same { HaveSameLiterals literals.new.items literals.old.items }
 {
     put_in_order(literals);
