@@ -14,7 +14,8 @@ use log_check::valid_logs_are_accepted;
 use opb_solve::opb_texts_come_to_one_thing;
 
 /// Whatever the words and the held files are, they show something: a task with what it needs, or refusals. That they show one thing
-/// alone is what `one_job_for_words`, `texts_have_one_answer` and `opb_texts_come_to_one_thing` say.
+/// alone is what `one_job_for_words`, `texts_have_one_answer`, `opb_texts_come_to_one_thing`, `cnf_texts_have_one_meaning` and
+/// `log_texts_have_one_meaning` say.
 pub fn every_command_shows()
     ensures { (words : List (List ℕ)) (held : Held) → (outcome : Outcome Task) × Show words held outcome }
 {

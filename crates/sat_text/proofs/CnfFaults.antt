@@ -15,7 +15,7 @@ use Rattle.sat_text.proofs.Spelling.{cons_head, cons_tail, cons_same}
 use Rattle.sat_text.proofs.ClausesSpelled.{grouped_spells, spells_grouped, clauses_sound, clauses_complete}
 use Rattle.sat_text.proofs.ClauseFaults.{zeros, Finishes, ClauseFault, zeros_finish, clauses_fault}
 use Rattle.sat_text.proofs.FormulaSteps.{formula_quiet, formula_header}
-use Rattle.sat_text.proofs.CnfSpelled.{AreCounts, p_word, cnf_word, header_sound, some_word, quiet_text, spoken_text, AreBehind, text_behind}
+use Rattle.sat_text.proofs.CnfSpelled.{AreCounts, p_word, cnf_word, header_sound, some_word, quiet_text, spoken_text, AreBehind, text_behind, refused_spells_none}
 
 -- ---- a header and words that complete the clauses
 
@@ -402,4 +402,7 @@ text_fault last number (line ∷ later) at e = elim (bool_cases (says_nothing li
 ]
 
 pub fault_line : (text : List ℕ) (line : ℕ) → formula_of text ≡ Err line → IsFaultLine text line
-fault_line text line e = text_fault (last_line text) 1 (lines text) line e
+fault_line text line e = elim (text_fault (last_line text) 1 (lines text) line e) [
+  | inl wrong ↦ inl wrong
+  | inr few ↦ inr (few.0, λ vars clauses s. refused_spells_none text line vars clauses e s, few.1)
+]

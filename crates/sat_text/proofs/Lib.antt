@@ -27,5 +27,6 @@ pub mod NoteSpelled
 pub mod Written
 pub mod ClauseFaults
 pub mod CnfFaults
+pub mod FaultLines
 mod Vectors
 mod VectorsGrammar

@@ -62,9 +62,11 @@ pub record IsFirstWrongWord (found : List PlacedWord) (word : PlacedWord) : Type
   pub good_before : CanGoOn front
   pub not_good : CanGoOn (front ++ word ∷ []) → ⊥
 
--- The line of a text's fault: that of the first word with which no text can go on, or the last
--- line where the words could go on, and are too few.
+-- The line of the fault of a text that spells no formula: that of the first word with which no text can go on, or the text's
+-- last line where others can stand behind all words, and these are too few.
 abbrev pub IsFaultLine : List ℕ → ℕ → Type 0
 IsFaultLine text line =
     ((word : PlacedWord) × IsFirstWrongWord (placed_words text) word × (line ≡ word.line))
-    ⊎ (CanGoOn (placed_words text) × (line ≡ last_line text))
+    ⊎ (CanGoOn (placed_words text)
+    × ((vars : ℕ) (clauses : List (List Literal)) → ¬ SpellsCnf text vars clauses)
+    × (line ≡ last_line text))

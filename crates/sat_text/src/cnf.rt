@@ -32,8 +32,8 @@ pub struct CnfFile {
 pub enum CnfError {
     /// It has more than [`MOST_BYTES`] bytes.
     TooLong,
-    /// The first wrong word stands on this line, counted from 1, or words are wanting behind the
-    /// last one.
+    /// The first word with which no text can go on stands on this line, counted from 1, or words
+    /// are wanting at the end, and then it is the text's last line.
     Bad(u64),
     /// An allocation was refused.
     Memory,
@@ -76,7 +76,8 @@ fn formula(alloc: Global, text: &[u8]) -> Result<Formula, CnfError>
 /// # Errors
 ///
 /// [`CnfError::TooLong`] exactly where the text has more than [`MOST_BYTES`] bytes, and otherwise
-/// [`CnfError::Bad`] with the line of the first wrong word, or with the last line where words are wanting.
+/// [`CnfError::Bad`] with the line of the first word with which no text can go on, or with the text's
+/// last line where words are wanting.
 pub fn read_cnf(alloc: Global, text: &[u8]) -> Result<CnfFile, CnfError>
     ensures too_long { IsErrOf result CnfError.TooLong ↔ (most_text_bytes < length text.now) }
     // What is read is what the text spells, and no text that spells a formula is refused as bad.
