@@ -1,8 +1,10 @@
 -- The log of a search stands for the problem, and shows the answer.
-use Rattle.std.proofs.Common.{IfSome, ◌≡◌, ◌↔◌, ℕ, ◌<◌, ℤ, ◌<ℤ◌, Bool, true, IsTrue, List, ◌++◌, Option, Some, None, int_lt, length, map, take, drop, refl, sym, ap, subst, ◌∙◌, arith, option_map}
-use Rattle.std.specs.List.{All}
+use Rattle.std.proofs.Common.{IfSome, ◌≡◌, ◌↔◌, ℕ, ◌<◌, ℤ, ◌<ℤ◌, Bool, true, IsSome, IsTrue, List, [], ◌∷◌, ◌++◌, Option, Some, None, int_lt, length, map, take, drop, refl, sym, ap, subst, ◌∙◌, arith, option_map}
+use Rattle.std.specs.Prelude.{slice_index_or}
+use Rattle.std.specs.List.{All, AllZip}
 use Rattle.std.proofs.lemmas.Int.{ints}
 use Rattle.std.proofs.lemmas.List.{length-map, length-take, take-append-drop}
+use Rattle.std.proofs.lemmas.List.Elements.{All-weaker}
 use Rattle.std.proofs.lemmas.List.FromFn.{length-range_with_len}
 use Rattle.cnf_core.specs.Clauses.{Satisfies}
 use Rattle.cnf_core.specs.Events.{HasBase, LogEvent, LogState, Note, givens, is_given}
@@ -10,19 +12,20 @@ use Rattle.cnf_core.specs.Literal.{Literal}
 use Rattle.enc_var.specs.Layouts.{GivesCells, decoded_cells, decoded_values}
 use Rattle.ep_answer.proofs.Listing.{all_told}
 use Rattle.ep_answer.proofs.Searching.{first_part, givens_append}
-use Rattle.ep_answer.specs.Answered.{AllTell, AnswersCells, FoundCells, IsBetterThan, IsBudgetSpent, IsNumberWanted, IsRightAnswer, LiteralsTell, best_number}
+use Rattle.ep_answer.specs.Answered.{AllTell, AnswersCells, FoundCells, Improves, IsBetterThan, IsBudgetSpent, IsNumberWanted, IsReachedGoal, IsRightAnswer, LiteralsTell, SaysBetter, added_givens, best_number}
 use Rattle.ep_answer.specs.Answered as cells
 use Rattle.ep_answer.specs.Problems.{IsAllowed, MapMeans, ProblemState, base_clauses}
 use Rattle.ep_base.specs.Senses.{better_number}
 use Rattle.ep_base.specs.declared.operators.Sense.{Sense}
 use Rattle.ep_flat.specs.Flats.{objective_number}
 use Rattle.opb_answer.specs.Answers.{truths_in}
+use Rattle.opb_solve.proofs.Adding.{none_reached}
 use Rattle.opb_solve.proofs.Agreeing.{numbers_again, same_objective, values_truths}
 use Rattle.opb_solve.proofs.Answering.{HasSenseOf, answered_right, goal_stated, smaller_is_better, stated_goal}
 use Rattle.opb_solve.proofs.Notes.{domains_are, notes_are, two_each, two_named, two_tell}
 use Rattle.opb_solve.proofs.Allowing.{AllowsOpb, allows, meant_posed}
-use Rattle.opb_solve.specs.Logged.{AddsNoGiven, IsOpbLogged, IsStillSmaller, ShowsOpb, StandsForOpb, TellOpbSolutions, TellTruths, noted_pair}
-use Rattle.opb_solve.specs.Meant.{AddsForBest, PosesOpb, found_from, goal_number, numbers_in, values_from}
+use Rattle.opb_solve.specs.Logged.{AddsForOpb, AddsNoGiven, IsOpbDrivenTo, IsOpbLogged, IsReachedOpb, IsStillSmaller, SaysSmaller, ShowsOpb, StandsForOpb, TellOpbSolutions, TellTruths, noted_pair}
+use Rattle.opb_solve.specs.Meant.{AreSolved, PosesOpb, found_from, goal_number, numbers_in, values_from}
 use Rattle.opb_answer.specs.Right.{IsRightOpb}
 use Rattle.opb_text.specs.Contents.{OpbContent}
 use Rattle.opb_text.specs.Flats.{truths_of}
@@ -118,8 +121,8 @@ module _ (content : OpbContent) (vars : List ℕ) (h : SearchedOpb content vars)
       ap givens (sym (take-append-drop n h.new.events)) ∙ givens_append (take n h.new.events) (drop n h.new.events) in
       first_part s (base_clauses h.new) (givens (drop n h.new.events)) (subst (Satisfies s) cut met)
 
-  none_added : (found : FoundCells) → AddsForBest found h.old h.new → best_number found ≡ None → AddsNoGiven h.new
-  none_added found adds none = ap (λ (n : ℕ). givens (drop n h.new.events)) counted ∙ adds none
+  none_added : (found : FoundCells) → Improves h.p h.old h.new found → best_number found ≡ None → AddsNoGiven h.new
+  none_added found improves none = ap (λ (n : ℕ). givens (drop n h.new.events)) counted ∙ none_reached h.p found h.old h.new improves none
 
 -- ---- what is still smaller
 
@@ -143,6 +146,13 @@ smaller_number p content best number goal sense is better =
     some_number : (a b : ℤ) → Some a ≡ Some b → a ≡ b
     some_number a b h = cc
 
+-- the objective of numbers of the variables is that of the values that are made of them
+own_value : (content : OpbContent) (vars : List ℕ) (numbers : List ℤ) (number : ℤ) → AreVariablesOf content vars → Some number ≡ goal_number content (truths_of vars numbers)
+    → objective_value content (truths_in (values_from vars numbers)) ≡ number
+own_value content vars numbers number are valued =
+    sym (same_objective content vars (truths_of vars numbers) (truths_in (values_from vars numbers)) are (λ var there. values_truths vars numbers var))
+    ∙ sym (stated_goal content (truths_of vars numbers) number valued).1
+
 still_smaller : (content : OpbContent) (vars : List ℕ) (h : SearchedOpb content vars) (best : Option (ℤ × List ℤ)) → IfSome best (λ one. IsAllowed h.p h.new one.1 (Some one.0)) → (truths : ℕ → Bool)
     → IsNumberWanted h.p best (goal_number content truths) ↔ IsStillSmaller content (option_map (λ one. values_from vars one.1) best) truths
 unfolding IsNumberWanted IsStillSmaller
@@ -150,37 +160,93 @@ still_smaller content vars h None allowed truths = (λ x. tt, λ x. tt)
 still_smaller content vars h (Some best) allowed truths =
     let solved = (allowed_now content vars h).solves best.1 (Some best.0) allowed in
     let stated = stated_goal content (truths_of vars best.1) best.0 solved.valued in
-    let own : objective_value content (truths_in (values_from vars best.1)) ≡ best.0 =
-    sym (same_objective content vars (truths_of vars best.1) (truths_in (values_from vars best.1)) h.are (λ var there. values_truths vars best.1 var)) ∙ sym stated.1 in
+    let own : objective_value content (truths_in (values_from vars best.1)) ≡ best.0 = own_value content vars best.1 best.0 h.are solved.valued in
     let value : goal_number content truths ≡ Some (objective_value content truths) = goal_stated content truths stated.0 in (
       λ better. subst (λ (n : ℤ). objective_value content truths <ℤ n) (sym own) (smaller_number h.p content best.0 (objective_value content truths) (goal_number content truths) (sense_of content vars h) value better),
       λ less. subst (IsBetterThan h.p best.0) (sym value) (smaller_is_better h.p content best.0 (objective_value content truths) (sense_of content vars h) stated.0 (subst (λ (n : ℤ). objective_value content truths <ℤ n) own less)),
     )
 
+-- ---- how the best solution was found
+
+zip_weaker : {A B : Type 0} (R S : A → B → Type 0) → ((x : A) (y : B) → R x y → S x y) → (xs : List A) (ys : List B) → AllZip R xs ys → AllZip S xs ys
+zip_weaker R S more [] [] all = tt
+zip_weaker R S more [] (y ∷ ys) all = absurd all
+zip_weaker R S more (x ∷ xs) [] all = absurd all
+zip_weaker R S more (x ∷ xs) (y ∷ ys) all = (more x y all.0, zip_weaker R S more xs ys all.1)
+
+reached_opb : (content : OpbContent) (vars : List ℕ) (h : SearchedOpb content vars) (number : ℤ) → IsReachedGoal h.p h.new number → IsReachedOpb content number
+reached_opb content vars h number one =
+    let solved = (allowed_now content vars h).solves one.cells (Some number) one.allowed in
+    let truths : ℕ → Bool = truths_of vars one.cells in (truths, solved.solution, sym (stated_goal content truths number solved.valued).1)
+
+-- a clause that says that the objective's number is better says that the objective is smaller
+says_smaller : (content : OpbContent) (vars : List ℕ) (h : SearchedOpb content vars) → IsSome content.objective → (number : ℤ) (clause : List Literal) → SaysBetter h.p number clause → SaysSmaller content vars h.new number clause
+says_smaller content vars h stated number clause better = record {
+  says = λ s met.
+      let numbers : List ℤ = decoded_cells h.p.layout h.p.variables s in
+      let goal : Option ℤ = objective_number h.p.variables (decoded_values h.p.layout s) in
+      let solved : AreSolved content vars numbers goal =
+      (allowed_now content vars h).solves numbers goal (record { are_given = record { assignment = s; satisfies = met; gives = refl }; drives = refl }) in
+      let truths : ℕ → Bool = truths_of vars numbers in
+      let value : goal ≡ Some (objective_value content truths) = solved.valued ∙ goal_stated content truths stated in
+      let said = better.says s (meant_now content vars h s met).objective in (
+        truths,
+        tell_now content vars h s truths met (numbers_again vars numbers h.are.ascending solved.fit),
+        (
+          λ holds. smaller_number h.p content number (objective_value content truths) goal (sense_of content vars h) value (said.0 holds),
+          λ less. said.1 (subst (IsBetterThan h.p number) (sym value) (smaller_is_better h.p content number (objective_value content truths) (sense_of content vars h) stated less)),
+        ),
+      );
+}
+
+driven_to : (content : OpbContent) (vars : List ℕ) (h : SearchedOpb content vars) (found : FoundCells) (best : ℤ) (numbers : List ℤ) → best_number found ≡ Some best → IsAllowed h.p h.new numbers (Some best) → Improves h.p h.old h.new found
+    → IsOpbDrivenTo content vars h.new (values_from vars numbers)
+driven_to content vars h found best numbers is allowed improves =
+    let solved = (allowed_now content vars h).solves numbers (Some best) allowed in
+    let stated = stated_goal content (truths_of vars numbers) best solved.valued in
+    let bests : List ℤ = improves.bests in
+    let behind : added_givens h.old h.new ≡ givens (drop h.new.base h.new.events) = ap (λ (n : ℕ). givens (drop n h.new.events)) (sym (counted content vars h)) in
+    record {
+      numbers = bests;
+      reached = All-weaker (IsReachedGoal h.p h.new) (IsReachedOpb content) (λ number one. reached_opb content vars h number one) bests improves.reached;
+      smaller = λ m n d low high.
+          smaller_number h.p content (slice_index_or bests m d) (slice_index_or bests n d) (Some (slice_index_or bests n d)) (sense_of content vars h) refl (improves.better m n d low high);
+      last = improves.last ∙ is ∙ ap (λ (n : ℤ). Some n) (sym (own_value content vars numbers best h.are solved.valued));
+      said = subst (AllZip (SaysSmaller content vars h.new) bests) behind
+          (zip_weaker (SaysBetter h.p) (SaysSmaller content vars h.new) (λ number clause better. says_smaller content vars h stated.0 number clause better) bests (added_givens h.old h.new) improves.said);
+    }
+
+adds_for : (content : OpbContent) (vars : List ℕ) (h : SearchedOpb content vars) (best : Option (ℤ × List ℤ)) → Improves h.p h.old h.new (cells.unknown best) → IfSome best (λ one. IsAllowed h.p h.new one.1 (Some one.0))
+    → AddsForOpb content vars h.new (option_map (λ one. values_from vars one.1) best)
+unfolding AddsForOpb best_number
+adds_for content vars h None improves allowed = none_added content vars h (cells.unknown None) improves refl
+adds_for content vars h (Some best) improves allowed = driven_to content vars h (cells.unknown (Some best)) best.0 best.1 refl allowed improves
+
 -- ---- answers
 
-shows : (content : OpbContent) (vars : List ℕ) (h : SearchedOpb content vars) (budget : ℕ) (found : FoundCells) → AddsForBest found h.old h.new → IsRightAnswer h.p budget h.new found
+shows : (content : OpbContent) (vars : List ℕ) (h : SearchedOpb content vars) (budget : ℕ) (found : FoundCells) → Improves h.p h.old h.new found → IsRightAnswer h.p budget h.new found
     → ShowsOpb content vars budget h.new (found_from vars found)
 unfolding ShowsOpb IsRightAnswer best_number found_from
-shows content vars h budget (cells.solution numbers) adds right = none_added content vars h (cells.solution numbers) adds refl
-shows content vars h budget (cells.optimum number numbers) adds right = right.ends
-shows content vars h budget cells.no_solution adds right = (right.ends, none_added content vars h cells.no_solution adds refl)
-shows content vars h budget (cells.unknown best) adds right = (
+shows content vars h budget (cells.solution numbers) improves right = none_added content vars h (cells.solution numbers) improves refl
+shows content vars h budget (cells.optimum number numbers) improves right = (right.ends, driven_to content vars h (cells.optimum number numbers) number numbers refl right.allowed improves)
+shows content vars h budget cells.no_solution improves right = (right.ends, none_added content vars h cells.no_solution improves refl)
+shows content vars h budget (cells.unknown best) improves right = (
   right.steps,
   right.none_is_empty,
   tell_solutions content vars h (givens h.new.events) (narrower content vars h) (IsNumberWanted h.p best) (IsStillSmaller content (option_map (λ one. values_from vars one.1) best))
       right.left (still_smaller content vars h best right.incumbent),
+  adds_for content vars h best improves right.incumbent,
 )
 
-pub found_logged : (content : OpbContent) (vars : List ℕ) (h : SearchedOpb content vars) (budget : ℕ) (found : FoundCells) → AddsForBest found h.old h.new → AnswersCells h.p budget h.new found
+pub found_logged : (content : OpbContent) (vars : List ℕ) (h : SearchedOpb content vars) (budget : ℕ) (found : FoundCells) → Improves h.p h.old h.new found → AnswersCells h.p budget h.new found
     → IsOpbLogged content budget h.new (found_from vars found)
-found_logged content vars h budget found adds answers = record {
+found_logged content vars h budget found improves answers = record {
   vars = vars;
   variables = h.are;
   stands = stands_now content vars h;
   sound = answers.sound;
   within = answers.within;
-  shows = shows content vars h budget found adds answers.right;
+  shows = shows content vars h budget found improves answers.right;
 }
 
 pub found_right : (content : OpbContent) (vars : List ℕ) (h : SearchedOpb content vars) (budget : ℕ) (found : FoundCells) → AnswersCells h.p budget h.new found → IsRightOpb content (found_from vars found)

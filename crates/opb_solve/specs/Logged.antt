@@ -1,8 +1,8 @@
 -- What the log of a search shows of a pseudo-Boolean problem, beside its answer.
-use Rattle.std.specs.Prelude.{◌≡◌, ◌↔◌, ◌≤◌, ◌<ℤ◌, ℕ, ℤ, pos, Bool, true, false, List, [], ◌∷◌, codes, ◌++◌, drop, map, take, Option, Some, None}
+use Rattle.std.specs.Prelude.{◌≡◌, ◌↔◌, ◌≤◌, ◌<ℤ◌, ◌-◌, ℕ, ℤ, pos, Bool, true, false, List, [], ◌∷◌, codes, ◌++◌, drop, length, map, slice_get, take, Option, Some, None}
 use Rattle.std.specs.Fmt.{decimal}
-use Rattle.std.specs.List.{flat_map}
-use Rattle.cnf_core.specs.Clauses.{IsTrueUnder, Satisfies}
+use Rattle.std.specs.List.{All, AllPairs, AllZip, flat_map}
+use Rattle.cnf_core.specs.Clauses.{IsTrueUnder, Satisfies, SatisfiesClause}
 use Rattle.cnf_core.specs.Events.{HasBase, LogState, Note, givens, nonempty_steps}
 use Rattle.cnf_core.specs.Literal.{Literal}
 use Rattle.opb_answer.specs.Answers.{OpbFound, no_solution, optimum, solution, truths_in, unknown}
@@ -69,16 +69,43 @@ IsStillSmaller content (Some values) truths = objective_value content truths <�
 abbrev pub AddsNoGiven : LogState → Type 0
 AddsNoGiven log = givens (drop log.base log.events) ≡ []
 
+-- this is the objective of some solution
+abbrev pub IsReachedOpb : OpbContent → ℤ → Type 0
+IsReachedOpb content number = (truths : ℕ → Bool) × IsOpbSolution content truths × (objective_value content truths ≡ number)
+
+-- Under each assignment that satisfies the givens which stand for the problem, the notes tell truth values, and a clause holds
+-- exactly where the objective is smaller than this number under them.
+pub record SaysSmaller (content : OpbContent) (vars : List ℕ) (log : LogState) (number : ℤ) (clause : List Literal) : Type 0 where
+  pub says : (s : ℕ → Bool) → Satisfies s (givens (take log.base log.events))
+      → (truths : ℕ → Bool) × TellTruths s log.notes vars truths
+      × (SatisfiesClause s clause ↔ (objective_value content truths <ℤ number))
+
+-- How a search came to the objective of a solution: solutions reached some numbers one after another, each smaller than those
+-- before and the last one this. One given was added for each of them and no other: it says that the objective is smaller.
+pub record IsOpbDrivenTo (content : OpbContent) (vars : List ℕ) (log : LogState) (values : List OpbValue) : Type 0 where
+  pub numbers : List ℤ
+  pub reached : All (IsReachedOpb content) numbers
+  pub smaller : AllPairs (λ earlier later. later <ℤ earlier) numbers
+  pub last : slice_get numbers (length numbers - 1) ≡ Some (objective_value content (truths_in values))
+  pub said : AllZip (SaysSmaller content vars log) numbers (givens (drop log.base log.events))
+
+-- what was added to what stands for the problem: nothing where no solution is at hand, and else what leads to its objective
+unfoldable pub AddsForOpb : OpbContent → List ℕ → LogState → Option (List OpbValue) → Type 0
+AddsForOpb content vars log None = AddsNoGiven log
+AddsForOpb content vars log (Some values) = IsOpbDrivenTo content vars log values
+
 -- What a log shows of an answer. Of a solution: nothing was added to what stands for the problem. Of an optimum: it ends with the
--- empty step. Of there being no solution: so it does, and nothing was added. Where the conflicts are spent: as many steps have a
--- literal, no event is empty, and what satisfies all givens are exactly the solutions that are still smaller.
+-- empty step, and the givens that were added lead to its objective. Of there being no solution: it ends with the empty step, and
+-- nothing was added. Where the conflicts are spent: as many steps have a literal, no event is empty, what satisfies all givens are
+-- exactly the solutions that are still smaller, and the givens that were added lead to the objective of the one at hand.
 unfoldable pub ShowsOpb : OpbContent → List ℕ → ℕ → LogState → OpbFound → Type 0
 ShowsOpb content vars budget log (solution values) = AddsNoGiven log
-ShowsOpb content vars budget log (optimum values) = EndsWithEmptyStep log.events
+ShowsOpb content vars budget log (optimum values) = EndsWithEmptyStep log.events × IsOpbDrivenTo content vars log values
 ShowsOpb content vars budget log no_solution = EndsWithEmptyStep log.events × AddsNoGiven log
 ShowsOpb content vars budget log (unknown best) =
     (nonempty_steps log.events ≡ budget) × NoneIsEmpty log.events
     × TellOpbSolutions content vars log.notes (givens log.events) (IsStillSmaller content best)
+    × AddsForOpb content vars log best
 
 -- An answer is logged: the log stands for the problem, its steps are valid, those with a literal are new and effective and no
 -- more than the budget, and it shows the answer.

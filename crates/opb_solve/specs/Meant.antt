@@ -1,5 +1,5 @@
 -- How a pseudo-Boolean problem stands in a formula, and how numbers of its variables are an answer.
-use Rattle.std.specs.Prelude.{◌≡◌, ℕ, ℤ, Bool, true, false, List, [], ◌∷◌, length, map, Option, None, option_map}
+use Rattle.std.specs.Prelude.{◌≡◌, ℕ, ℤ, Bool, true, false, List, [], ◌∷◌, length, map, Option, option_map}
 use Rattle.std.specs.List.{All, AllZip, Contains, range_with_len}
 use Rattle.cnf_core.specs.Clauses.{Satisfies}
 use Rattle.cnf_core.specs.Events.{LogState, clauses_of, givens, is_given}
@@ -8,7 +8,7 @@ use Rattle.cnf_core.specs.Steps.{IsConsistent}
 use Rattle.enc_var.specs.Decoding.{VariableLiterals}
 use Rattle.enc_var.specs.Layouts.{AreGiven, IsLayoutOf, decoded_cells, decoded_values}
 use Rattle.enc_var.specs.Notes.{cell_notes}
-use Rattle.ep_answer.specs.Answered.{FoundCells, added_givens, best_number}
+use Rattle.ep_answer.specs.Answered.{FoundCells}
 use Rattle.ep_answer.specs.Answered as cells
 use Rattle.ep_answer.specs.Problems.{ProblemState}
 use Rattle.ep_base.specs.Numbers.{is_one, of_bool}
@@ -37,10 +37,6 @@ found_from vars (cells.solution numbers) = solution (values_from vars numbers)
 found_from vars (cells.optimum number numbers) = optimum (values_from vars numbers)
 found_from vars cells.no_solution = no_solution
 found_from vars (cells.unknown best) = unknown (option_map (λ one. values_from vars one.1) best)
-
--- no given was added where no number of the objective was reached
-abbrev pub AddsForBest : FoundCells → LogState → LogState → Type 0
-AddsForBest found old new = best_number found ≡ None → added_givens old new ≡ []
 
 -- ---- cells and the map
 

@@ -1,14 +1,14 @@
 //! The answer of a problem.
 
 ghost use Rattle.std.specs.Prelude.{◌≡◌, [], All, IfOk, length, take};
-ghost use Rattle.ep_answer.specs.Answered.{AnswersCells};
+ghost use Rattle.ep_answer.specs.Answered.{AnswersCells, Improves};
 ghost use Rattle.ep_answer.specs.AnswerViews.{plain_answer, plain_problem};
 ghost use Rattle.ep_answer.specs.Problems.{CanSearch};
 ghost use Rattle.ep_base.specs.Numbers.{is_one};
 ghost use Rattle.opb_answer.specs.Answers.{plain_found};
 ghost use Rattle.opb_answer.specs.Right.{IsRightOpb};
 ghost use Rattle.opb_solve.specs.Logged.{IsOpbLogged};
-ghost use Rattle.opb_solve.specs.Meant.{AddsForBest, found_from, values_from};
+ghost use Rattle.opb_solve.specs.Meant.{found_from, values_from};
 ghost use Rattle.opb_text.specs.Views.{plain_opb};
 ghost use Rattle.opb_text.specs.Weights.{IsProblemWithinReach};
 ghost use Rattle.sat_search.specs.Logs.{IsSound};
@@ -41,7 +41,6 @@ pub fn solve_opb(alloc: Global, opb: &Opb, budget: u64, log: &mut Log) -> Result
 }
 
 /// Numbers of the variables that answer a problem.
-#[tactic(auto, using(crate::proofs::Adding::none_reached))]
 fn search(
     alloc: Global,
     problem: &mut Problem,
@@ -51,7 +50,8 @@ fn search(
     requires { CanSearch (plain_problem problem.old) log.old }
     ensures answers { IfOk result (λ found.
         AnswersCells (plain_problem problem.old) budget log.new (plain_answer found)) }
-    ensures adds { IfOk result (λ found. AddsForBest (plain_answer found) log.old log.new) }
+    ensures improves { IfOk result (λ found.
+        Improves (plain_problem problem.old) log.old log.new (plain_answer found)) }
     ensures sound { IsSound log.old.events → IsSound log.new.events }
     ensures front { take (length log.old.events) log.new.events ≡ log.old.events }
     ensures base { log.new.base ≡ log.old.base }

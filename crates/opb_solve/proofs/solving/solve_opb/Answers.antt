@@ -51,7 +51,7 @@ returns-clause-logged c =
     let same : plain_found c.in_ok-answer.answer ≡ found_from vars (plain_answer c.in_ok-found.found) =
     c.in_ok-answer.ensures ∙ ap (λ (vs : List ℕ). found_from vs (plain_answer c.in_ok-found.found)) c.deref-2.ensures.value in
     subst (IsOpbLogged (plain_opb c.args.opb.now) c.args.budget c.search.new.log) (sym same)
-    (found_logged (plain_opb c.args.opb.now) vars searched c.args.budget (plain_answer c.in_ok-found.found) c.in_ok-found.ensures.adds c.in_ok-found.ensures.answers)
+    (found_logged (plain_opb c.args.opb.now) vars searched c.args.budget (plain_answer c.in_ok-found.found) c.in_ok-found.ensures.improves c.in_ok-found.ensures.answers)
 
 pub returns-in_err-vars-clause-sound : goal.returns-in_err-vars-clause-sound
 returns-in_err-vars-clause-sound c =
