@@ -92,7 +92,7 @@ or_end false = refl
 or_none : (a : Bool) → a ≡ false → not (a || false) ≡ true
 or_none a e = rw e refl
 
-end_not_plain : (b : ℕ) → eqb b 10 ≡ true → is_plain b ≡ false
+pub end_not_plain : (b : ℕ) → eqb b 10 ≡ true → is_plain b ≡ false
 end_not_plain b e = rw e (or_end (is_between_words b))
 
 blank_not_plain : (b : ℕ) → is_between_words b ≡ true → is_plain b ≡ false
@@ -203,3 +203,7 @@ word_behind (b ∷ text) = elim (bool_cases (is_plain b)) [
 pub nothing_said : (number : ℕ) (rest : List ℕ) → eqb (length rest) 0 ≡ true → text_words number (lines rest) ≡ []
 nothing_said number [] e = refl
 nothing_said number (b ∷ rest) e = absurd (let none = eqb-true (length (b ∷ rest)) 0 e in omega (arith, none))
+
+pub no_lines : (rest : List ℕ) → eqb (length rest) 0 ≡ true → lines rest ≡ []
+no_lines [] e = refl
+no_lines (b ∷ rest) e = absurd (let none = eqb-true (length (b ∷ rest)) 0 e in omega (arith, none))

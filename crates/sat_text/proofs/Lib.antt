@@ -1,7 +1,7 @@
 pub mod Cuts
 pub mod Heads
-pub mod Places
-pub mod Commented
+pub mod LineSteps
+pub mod HeardSteps
 pub mod Digits
 pub mod ItemSteps
 pub mod Order

@@ -20,6 +20,6 @@ Gives view (Ok x) read = read ≡ Some (view x)
 Gives view (Err fault) read = Fails fault read
 
 -- a reader of a line appends the line that reading gives
-abbrev pub AddsLine : FlatProof → FlatProof → Result (Unit {0}) Fault → Option ProofLine → Type 0
-AddsLine old new (Ok done) read = (line : ProofLine) × (read ≡ Some line) × (proof_lines new ≡ proof_lines old ++ line ∷ [])
+abbrev pub AddsLine : {X : Type 0} → FlatProof → FlatProof → Result X Fault → Option ProofLine → Type 0
+AddsLine old new (Ok later) read = (line : ProofLine) × (read ≡ Some line) × (proof_lines new ≡ proof_lines old ++ line ∷ [])
 AddsLine old new (Err fault) read = Fails fault read

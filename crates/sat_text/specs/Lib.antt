@@ -9,3 +9,4 @@ pub mod LogGrammar
 pub mod Cnf
 pub mod Notes
 pub mod NoteGrammar
+pub mod Heard

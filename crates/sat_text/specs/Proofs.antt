@@ -63,6 +63,11 @@ is_d [] = false
 is_d (b ∷ []) = b == 100
 is_d (b ∷ c ∷ word) = false
 
+-- whether the first of these words is the letter `d`
+abbrev pub begins_with_d : List (List ℕ) → Bool
+begins_with_d [] = false
+begins_with_d (word ∷ later) = is_d word
+
 -- what stands behind the id
 unfoldable pub behind_id : ℕ → List (List ℕ) → Option ProofLine
 behind_id id [] = None

@@ -27,11 +27,6 @@ abbrev pub behind_line : List ℕ → List ℕ
 behind_line [] = []
 behind_line (b ∷ text) = if b == 10 then text else behind_line text
 
--- whether a line begins behind these bytes, where one does, or doesn't, in front of them
-abbrev pub ends_line : Bool → List ℕ → Bool
-ends_line is_start [] = is_start
-ends_line is_start (b ∷ bytes) = ends_line (b == 10) bytes
-
 -- how many lines a text has, or 1 where it is empty
 abbrev pub last_line : List ℕ → ℕ
 last_line text = max 1 (length (lines text))
@@ -53,10 +48,6 @@ words line = filter has_bytes (slice_split is_between_words line)
 abbrev pub is_comment : List ℕ → Bool
 is_comment [] = false
 is_comment (b ∷ line) = b == 99
-
--- the lines of a text that are comments
-abbrev pub comments : List ℕ → List (List ℕ)
-comments text = filter is_comment (lines text)
 
 -- whether there is no word
 abbrev pub has_no_word : List (List ℕ) → Bool

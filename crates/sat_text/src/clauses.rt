@@ -5,10 +5,12 @@ ghost use Rattle.cnf_core.specs.Literal.{Literal, VariablesUpTo};
 ghost use Rattle.sat_text.specs.Words.{lines, first_line, behind_line, words, PlacedWord, words_on, text_words};
 ghost use Rattle.sat_text.specs.Numbers.{whole_of};
 ghost use Rattle.sat_text.specs.Clauses.{in_order};
+ghost use Rattle.sat_text.specs.Heard.{Heard};
 ghost use Rattle.sat_text.specs.Cnf.{clauses_of_words, Completes, StopsLine};
 
 use crate::faults::Stop;
 use crate::items::{is_zero, literal};
+use crate::notes::Comments;
 use crate::numbers::next_whole;
 use crate::proof::order;
 use crate::words::{blank, is_comment_line, split_line};
@@ -104,18 +106,21 @@ fn take_line<'a>(
     Ok(rest)
 }
 
-/// The clauses of a text, whose first line has the number behind this one.
+/// The clauses of a text, whose first line has the number behind this one, and whose comments are
+/// heard on the way.
 pub(crate) fn read_clauses(
     alloc: Global,
     vars: u64,
     count: u64,
     before: u64,
     text: &[u8],
+    said: &mut Comments,
 ) -> Result<Formula, Stop>
     requires small { vars < 10 ^ 18 }
     requires few { before + length text.now < 2 ^ 62 }
     ensures vars { IfOk result (λ f. f.vars ≡ vars) }
     ensures origin { IfOk result (λ f. f.from_new ≡ false) }
+    ensures heard { OnOk result (Heard said.old said.new (lines text.now)) }
     ensures clauses { (last : ℕ) → MatchResult result
         (λ f. clauses_of_words last vars count [] (text_words (before + 1) (lines text.now))
         ≡ Ok f.clauses)
@@ -130,7 +135,9 @@ pub(crate) fn read_clauses(
     while !rest.is_empty() {
         number += 1;
         if is_comment_line(rest) {
-            rest = split_line(rest).1;
+            let (line, later) = split_line(rest);
+            said.hear(alloc, line)?;
+            rest = later;
         } else {
             rest = take_line(&mut f, &mut left, &mut begun, number, rest)?;
         }

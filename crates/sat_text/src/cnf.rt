@@ -1,17 +1,18 @@
 //! Reads the text of a formula.
 
-ghost use Rattle.std.specs.Prelude.{◌≡◌, ◌<◌, ◌^◌, ◌↔◌, ℕ, List, false, length, map, Ok, Err, IfOk, MatchResult, IsErrOf};
+ghost use Rattle.std.specs.Prelude.{◌≡◌, ◌<◌, ◌^◌, ◌↔◌, ℕ, List, false, length, map, Ok, Err, IfOk, OnOk, MatchResult, IsErrOf};
 ghost use Rattle.cnf_core.specs.Events.{plain_note};
 ghost use Rattle.cnf_core.specs.Literal.{Literal};
 ghost use Rattle.sat_text.specs.CnfGrammar.{SpellsCnf, IsFaultLine};
 ghost use Rattle.sat_text.specs.Words.{lines, most_text_bytes};
 ghost use Rattle.sat_text.specs.Cnf.{formula_of, plain_formula};
 ghost use Rattle.sat_text.specs.Notes.{notes_of, added_of};
+ghost use Rattle.sat_text.specs.Heard.{Heard};
 
 use crate::MOST_BYTES;
 use crate::faults::Stop;
 use crate::formula::{last_line, read_formula};
-use crate::notes::read_notes;
+use crate::notes::Comments;
 use cnf_core::{CellNote, Formula};
 use ep_base::Memory;
 use std::alloc::Global;
@@ -49,9 +50,10 @@ impl From<Memory> for CnfError {
     }
 }
 
-/// The formula alone, or the line of its text's fault.
-fn formula(alloc: Global, text: &[u8]) -> Result<Formula, CnfError>
+/// The formula, or the line of its text's fault. Comments are heard on the way.
+fn formula(alloc: Global, text: &[u8], said: &mut Comments) -> Result<Formula, CnfError>
     requires { length text.now < 2 ^ 62 }
+    ensures heard { OnOk result (Heard said.old said.new (lines text.now)) }
     ensures spelled { IfOk result (λ f. SpellsCnf text.now f.vars f.clauses) }
     ensures complete { (vars : ℕ) (clauses : List (List Literal)) →
         SpellsCnf text.now vars clauses → MatchResult result
@@ -63,7 +65,7 @@ fn formula(alloc: Global, text: &[u8]) -> Result<Formula, CnfError>
     ensures bad { (line : ℕ) → result ≡ Err (CnfError.Bad line) → formula_of text.now ≡ Err line }
     ensures short { IsErrOf result CnfError.TooLong → ⊥ }
 {
-    match read_formula(alloc, text) {
+    match read_formula(alloc, text, said) {
         Ok(found) => Ok(found),
         Err(Stop::Memory) => Err(CnfError::Memory),
         Err(Stop::At(line)) => Err(CnfError::Bad(line)),
@@ -99,8 +101,9 @@ pub fn read_cnf(alloc: Global, text: &[u8]) -> Result<CnfFile, CnfError>
     if text.len() > MOST_BYTES {
         return Err(CnfError::TooLong);
     }
-    let formula = formula(alloc, text)?;
-    let (notes, added) = read_notes(alloc, text)?;
+    let mut said = Comments::new(alloc);
+    let formula = formula(alloc, text, &mut said)?;
+    let Comments { notes, added } = said;
     Ok(CnfFile {
         formula,
         notes,

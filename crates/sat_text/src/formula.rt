@@ -1,14 +1,15 @@
-//! Reads the text of a formula, without what its comments say.
+//! Reads the text of a formula.
 
-ghost use Rattle.std.specs.Prelude.{◌≡◌, ◌<◌, ◌≤◌, ◌+◌, ◌^◌, ℕ, Ok, Err, false, length, IfOk, MatchResult};
+ghost use Rattle.std.specs.Prelude.{◌≡◌, ◌<◌, ◌≤◌, ◌+◌, ◌^◌, ℕ, Ok, Err, false, length, IfOk, OnOk, MatchResult};
 ghost use Rattle.sat_text.specs.Words.{lines, last_line, words, text_words};
+ghost use Rattle.sat_text.specs.Heard.{Heard};
 ghost use Rattle.sat_text.specs.Cnf.{first_word_line, formula_from, formula_of, StopsLine, NamesLine, plain_formula};
 
 use crate::clauses::read_clauses;
 use crate::faults::Stop;
 use crate::header::{HeaderLine, header};
-use crate::proof::is_silent;
-use crate::words::next_line;
+use crate::notes::Comments;
+use crate::words::{is_silent, next_line};
 use cnf_core::Formula;
 use std::alloc::Global;
 
@@ -44,9 +45,10 @@ fn first_word(before: u64, text: &[u8]) -> Stop
     Stop::Ends
 }
 
-/// The formula of a text, without what its comments say.
-pub(crate) fn read_formula(alloc: Global, text: &[u8]) -> Result<Formula, Stop>
+/// The formula of a text, whose comments are heard on the way.
+pub(crate) fn read_formula(alloc: Global, text: &[u8], said: &mut Comments) -> Result<Formula, Stop>
     requires { length text.now < 2 ^ 62 }
+    ensures heard { OnOk result (Heard said.old said.new (lines text.now)) }
     ensures origin { IfOk result (λ f. f.from_new ≡ false) }
     ensures found { (last : ℕ) → MatchResult result
         (λ f. formula_from last 1 (lines text.now) ≡ Ok (plain_formula f))
@@ -58,11 +60,14 @@ pub(crate) fn read_formula(alloc: Global, text: &[u8]) -> Result<Formula, Stop>
         number += 1;
         if !is_silent(line) {
             return match header(line) {
-                HeaderLine::Good(vars, count) => read_clauses(alloc, vars, count, number, later),
+                HeaderLine::Good(vars, count) => {
+                    read_clauses(alloc, vars, count, number, later, said)
+                }
                 HeaderLine::Short => Err(first_word(number, later)),
                 HeaderLine::Wrong => Err(Stop::At(number)),
             };
         }
+        said.hear(alloc, line)?;
         rest = later;
     }
     Err(Stop::Ends)

@@ -1,17 +1,17 @@
 //! Reads what the comments of a formula's text say.
 
-ghost use Rattle.std.specs.Prelude.{◌≡◌, ◌<◌, ◌==◌, ◌++◌, ◌∷◌, [], length, map, position, IfOk, IfSome, MatchOption};
+ghost use Rattle.std.specs.Prelude.{◌≡◌, ◌<◌, ◌==◌, ◌∷◌, [], length, position, IfOk, OnOk, IfSome, MatchOption};
 ghost use Rattle.std.specs.Option.{option_map};
 ghost use Rattle.std.specs.List.{slice_split, list_all};
 ghost use Rattle.sat_text.specs.Numbers.{whole_of};
 ghost use Rattle.cnf_core.specs.Events.{plain_note};
-ghost use Rattle.sat_text.specs.Words.{lines};
 ghost use Rattle.ep_base.specs.TokenTexts.{continues_name};
-ghost use Rattle.sat_text.specs.Notes.{is_free_name, are_wholes, are_indices, is_cell, note_of, note_at, note_value, note_literal, note_with, added_on, notes_of, added_of};
+ghost use Rattle.sat_text.specs.Heard.{Heard};
+ghost use Rattle.sat_text.specs.Notes.{is_free_name, are_wholes, are_indices, is_cell, note_of, note_at, note_value, note_literal, note_with, added_on};
 
 use crate::items::{is_zero, literal};
 use crate::numbers::{natural, whole};
-use crate::words::{next_comment, place_of};
+use crate::words::place_of;
 use cnf_core::CellNote;
 use ep_base::{Memory, begins_name, continues_name, is_word};
 use std::alloc::Global;
@@ -182,20 +182,35 @@ fn added(line: &[u8]) -> Option<u64>
     }
 }
 
-/// The notes of a text, and the number of clauses that were added last.
-pub(crate) fn read_notes(alloc: Global, text: &[u8]) -> Result<(Vec<CellNote>, u64), Memory>
-    ensures notes { IfOk result (λ said. map plain_note said.0.items ≡ notes_of (lines text.now)) }
-    ensures added { IfOk result (λ said. said.1 ≡ added_of 0 (lines text.now)) }
-{
-    let mut notes = Vec::new(alloc);
-    let mut last_added = 0;
-    let mut rest = text;
-    while let Some((line, later)) = next_comment(rest) {
-        if let Some(found) = note(alloc, line)? {
-            notes.push(found)?;
+/// What the comments of a formula's text say, as far as they were heard.
+#[derive(Drop)]
+pub(crate) struct Comments {
+    /// What the literals of the cells mean.
+    pub(crate) notes: Vec<CellNote>,
+    /// How many clauses were added last.
+    pub(crate) added: u64,
+}
+
+impl Comments {
+    /// Nothing is heard yet.
+    pub(crate) fn new(alloc: Global) -> Comments
+        ensures notes { result.notes.items ≡ [] }
+        ensures added { result.added ≡ 0 }
+    {
+        Comments {
+            notes: Vec::new(alloc),
+            added: 0,
         }
-        last_added = added(line).unwrap_or(last_added);
-        rest = later;
     }
-    Ok((notes, last_added))
+
+    /// Takes in what a line says.
+    pub(crate) fn hear(&mut self, alloc: Global, line: &[u8]) -> Result<(), Memory>
+        ensures { OnOk result (Heard self.old self.new (line.now ∷ [])) }
+    {
+        if let Some(found) = note(alloc, line)? {
+            self.notes.push(found)?;
+        }
+        self.added = added(line).unwrap_or(self.added);
+        Ok(())
+    }
 }

@@ -1,10 +1,10 @@
 //! Reads the text of a proof.
 
-ghost use Rattle.std.specs.Prelude.{◌≡◌, ◌<◌, ◌↔◌, [], ℕ, List, length, Ok, Err, IfOk, MatchResult, IsErrOf};
+ghost use Rattle.std.specs.Prelude.{◌≡◌, ◌<◌, ◌↔◌, [], ◌∷◌, false, ℕ, List, length, Ok, Err, IfOk, IfSome, MatchOption, MatchResult, IsErrOf};
 ghost use Rattle.cnf_core.specs.Literal.{HaveSameLiterals, IsClause, IsOrdered};
-ghost use Rattle.sat_text.specs.Words.{words, says_nothing, most_text_bytes};
+ghost use Rattle.sat_text.specs.Words.{behind_line, first_line, words, most_text_bytes};
 ghost use Rattle.sat_text.specs.Clauses.{in_order};
-ghost use Rattle.sat_text.specs.Proofs.{is_d, addition_at, deletion_at, behind_id, line_of, proof_of};
+ghost use Rattle.sat_text.specs.Proofs.{begins_with_d, addition_at, deletion_at, behind_id, line_of, proof_of};
 ghost use Rattle.cnf_core.specs.Lines.{ProofLine};
 ghost use Rattle.sat_proof.specs.Lines.{proof_lines};
 ghost use Rattle.sat_text.specs.LogGrammar.{SpellsLog, IsFirstWrongLine};
@@ -13,7 +13,7 @@ ghost use Rattle.sat_text.specs.Answers.{AddsLine};
 use crate::MOST_BYTES;
 use crate::faults::Fault;
 use crate::items::{hints, ids, literals, positive, whole_at};
-use crate::words::{next_line, next_word};
+use crate::words::{begins_word, behind_blanks, line_end, silent_line};
 use cnf_core::Lit;
 use sat_proof::{Proof, put_in_order};
 use std::alloc::{AllocError, AllocFailed, Global};
@@ -71,74 +71,82 @@ impl Reading {
         }
     }
 
-    /// Reads the line that adds a clause, from what stands behind its id.
+    /// Reads the line that adds a clause, from what stands behind its id, and gives what stands behind the line.
     #[tactic(auto, unfolding(crate::specs::Proofs::addition_at))]
-    fn addition(&mut self, id: u64, line: &[u8]) -> Result<(), Fault>
-        ensures { AddsLine self.old.proof self.new.proof result (addition_at id (words line.now)) }
+    fn addition<'a>(&mut self, id: u64, text: &'a [u8]) -> Result<&'a [u8], Fault>
+        ensures adds { AddsLine self.old.proof self.new.proof result (addition_at id (words (first_line text.now))) }
+        ensures later { IfOk result (λ later. later.now ≡ behind_line text.now) }
     {
-        let rest = literals(&mut self.literals, line)?;
+        let rest = literals(&mut self.literals, text)?;
         let rest = hints(&mut self.hints, rest)?;
         order(&mut self.literals);
-        match next_word(rest) {
-            None => Ok(
+        match line_end(rest) {
+            Some(later) => {
                 self.proof
-                    .add(id, self.literals.as_slice(), self.hints.as_slice())?,
-            ),
-            Some(_) => Err(Fault::Wrong),
+                    .add(id, self.literals.as_slice(), self.hints.as_slice())?;
+                Ok(later)
+            }
+            None => Err(Fault::Wrong),
         }
     }
 
     /// Reads the line that deletes ids, from what stands behind its `d`.
     #[tactic(auto, unfolding(crate::specs::Proofs::deletion_at))]
-    fn deletion(&mut self, line: &[u8]) -> Result<(), Fault>
-        ensures { AddsLine self.old.proof self.new.proof result (deletion_at (words line.now)) }
+    fn deletion<'a>(&mut self, text: &'a [u8]) -> Result<&'a [u8], Fault>
+        ensures adds { AddsLine self.old.proof self.new.proof result (deletion_at (words (first_line text.now))) }
+        ensures later { IfOk result (λ later. later.now ≡ behind_line text.now) }
     {
-        let rest = ids(&mut self.ids, line)?;
-        match next_word(rest) {
-            None => Ok(self.proof.delete(self.ids.as_slice())?),
-            Some(_) => Err(Fault::Wrong),
+        let rest = ids(&mut self.ids, text)?;
+        match line_end(rest) {
+            Some(later) => {
+                self.proof.delete(self.ids.as_slice())?;
+                Ok(later)
+            }
+            None => Err(Fault::Wrong),
         }
     }
 
     #[tactic(auto, unfolding(crate::specs::Proofs::behind_id))]
-    fn behind_id(&mut self, id: u64, line: &[u8]) -> Result<(), Fault>
-        ensures { AddsLine self.old.proof self.new.proof result (behind_id id (words line.now)) }
+    fn behind_id<'a>(&mut self, id: u64, text: &'a [u8]) -> Result<&'a [u8], Fault>
+        ensures adds { AddsLine self.old.proof self.new.proof result (behind_id id (words (first_line text.now))) }
+        ensures later { IfOk result (λ later. later.now ≡ behind_line text.now) }
     {
-        match next_word(line) {
-            None => Err(Fault::Wrong),
-            Some((word, later)) => {
-                if is_letter_d(word) {
-                    self.deletion(later)
-                } else {
-                    self.addition(id, line)
-                }
-            }
+        match behind_letter_d(text) {
+            Some(later) => self.deletion(later),
+            None => self.addition(id, text),
         }
     }
 
-    /// Reads a line.
+    /// Reads the first line of a text, and gives what stands behind its end.
     #[tactic(auto, unfolding(crate::specs::Proofs::line_of))]
-    fn line(&mut self, line: &[u8]) -> Result<(), Fault>
-        ensures { AddsLine self.old.proof self.new.proof result (line_of (words line.now)) }
+    fn line<'a>(&mut self, text: &'a [u8]) -> Result<&'a [u8], Fault>
+        ensures adds { AddsLine self.old.proof self.new.proof result (line_of (words (first_line text.now))) }
+        ensures later { IfOk result (λ later. later.now ≡ behind_line text.now) }
     {
-        let (number, rest) = whole_at(line)?;
+        let (number, rest) = whole_at(text)?;
         let id = positive(number)?;
         self.behind_id(id, rest)
     }
 }
 
-fn is_letter_d(word: &[u8]) -> bool
-    ensures { result ≡ is_d word.now }
+/// What stands behind the next word of a line, where that is the letter `d`.
+fn behind_letter_d(text: &[u8]) -> Option<&[u8]>
+    ensures words { MatchOption result (begins_with_d (words (first_line text.now)) ≡ false)
+        (λ later. words (first_line text.now) ≡ (100 ∷ []) ∷ words (first_line later.now)) }
+    ensures line { IfSome result (λ later. behind_line later.now ≡ behind_line text.now) }
 {
-    matches!(word, [b'd'])
-}
-
-pub(crate) fn is_silent(line: &[u8]) -> bool
-    ensures { result ≡ says_nothing line.now }
-{
-    match line {
-        [b'c', ..] => true,
-        _ => next_word(line).is_none(),
+    match behind_blanks(text) {
+        [first, later @ ..] => {
+            if *first != b'd' {
+                return None;
+            }
+            if begins_word(later) {
+                None
+            } else {
+                Some(later)
+            }
+        }
+        [] => None,
     }
 }
 
@@ -167,16 +175,16 @@ pub fn read_log(alloc: Global, text: &[u8]) -> Result<Proof, LogError>
     let mut reading = Reading::new(alloc);
     let mut rest = text;
     let mut number = 0u64;
-    while let Some((line, later)) = next_line(rest) {
+    while !rest.is_empty() {
         number += 1;
-        if !is_silent(line) {
-            match reading.line(line) {
-                Ok(_read) => {}
+        match silent_line(rest) {
+            Some(later) => rest = later,
+            None => match reading.line(rest) {
+                Ok(later) => rest = later,
                 Err(Fault::Memory) => return Err(LogError::Memory),
                 Err(Fault::Wrong) => return Err(LogError::Bad(number)),
-            }
+            },
         }
-        rest = later;
     }
     Ok(reading.proof)
 }

@@ -3,8 +3,8 @@ use Rattle.sat_proof.specs.Lines.{proof_lines}
 use Rattle.sat_text.proofs.LogLoop.{Reading}
 use Rattle.sat_text.proofs.proof.read_log.Given as goal
 
-abbrev pub invariant-loop-line : goal.invariant-loop-line
-invariant-loop-line l = Reading (proof_lines l.reading.proof) l.number l.rest l.text
+abbrev pub invariant-loop-rest : goal.invariant-loop-rest
+invariant-loop-rest l = Reading (proof_lines l.reading.proof) l.number l.rest l.text
 
-abbrev pub decreases-loop-line : goal.decreases-loop-line
-decreases-loop-line l = length l.rest
+abbrev pub decreases-loop-rest : goal.decreases-loop-rest
+decreases-loop-rest l = length l.rest
