@@ -1,4 +1,4 @@
-use Rattle.std.proofs.Common.{sym, ap, ◌∙◌, arith}
+use Rattle.std.proofs.Common.{sym, ap, ◌∙◌}
 use Rattle.sat_text.specs.Proofs.{whole_at}
 use Rattle.sat_text.specs.Words.{behind_line}
 use Rattle.sat_text.proofs.Heads.{line_behind_word}
