@@ -37,7 +37,7 @@ pub numbers_of : (cells : List Cell) (news : News) (values : List ℤ) → IsNew
 numbers_of cells news values h are = numbered cells news.arena values h.before h.safe are
 
 -- a node over these terms, by their numbers
-by_numbers : (cells : List Cell) (news : News) (values : List ℤ) → NumbersOf cells news values → (node : GroundNode) → All (λ p. p < length news.arena) (parts_of node)
+pub by_numbers : (cells : List Cell) (news : News) (values : List ℤ) → NumbersOf cells news values → (node : GroundNode) → All (λ p. p < length news.arena) (parts_of node)
     → node_value values (term_value news.arena values) node ≡ node_value values (there (number_under news.arena values)) node
 by_numbers cells news values m node below = over_numbers news.arena values (length news.arena) m.have node (λ p found. All-contains (λ q. q < length news.arena) (parts_of node) p below found)
 

@@ -5,6 +5,7 @@ mod Forms
 mod Deciding
 mod Negating
 mod Joining
+mod Picking
 mod Settled
 pub mod Images
 pub mod Simplified

@@ -3,7 +3,7 @@ use Rattle.std.proofs.Common.{◌≡◌, ◌≢◌, ℕ, ◌<◌, ◌≤◌, ◌
 use Rattle.std.specs.Prelude.{IfSome, IsSome, get_or, slice_index_or}
 use Rattle.std.specs.List.{All, Contains}
 use Rattle.std.proofs.lemmas.List.{length-append, map-append}
-use Rattle.std.proofs.lemmas.List.Elements.{All-append, All-cons, All-contains, All-head, All-nil, All-push, All-weaker, Contains-get_or}
+use Rattle.std.proofs.lemmas.List.Elements.{All-append, All-cons, All-contains, All-head, All-nil, All-push, All-weaker, Contains-append_right, Contains-get_or}
 use Rattle.std.proofs.lemmas.Option.{get_or_from_slice_get, same_Some, slice_get-get_or, slice_get_within}
 use Rattle.ep_base.specs.Intervals.{Interval, IsWithinReach, LiesIn, only, truth_interval}
 use Rattle.ep_base.specs.Numbers.{of_bool}
@@ -74,13 +74,14 @@ open_more nodes more (quotient a b) below h = tt
 open_more nodes more (remainder a b) below h = tt
 open_more nodes more (power a n) below h = tt
 open_more nodes more (absolute a) below h = tt
-open_more nodes more (least ts) below h = tt
-open_more nodes more (greatest ts) below h = tt
+open_more nodes more (least ts) below h = h
+open_more nodes more (greatest ts) below h = h
 open_more nodes more (pick ts keys indices) below h = tt
 open_more nodes more (whole a ts) below h = tt
 open_more nodes more (safe_quotient a b) below h = tt
 open_more nodes more (safe_remainder a b) below h = tt
-open_more nodes more (safe_pick ts keys indices) below h = tt
+open_more nodes more (safe_pick ts keys indices) below h = λ numbers. h (λ k d l.
+    was_number nodes more (get_or indices k d) (below (get_or indices k d) (Contains-append_right ts indices (get_or indices k d) (Contains-get_or indices k d l))) (numbers k d l))
 open_more nodes more (compare op a b) below h = two_more nodes more a b below h
 open_more nodes more (lex op ts us) below h = tt
 open_more nodes more (member a ns) below h = λ number. h (was_number nodes more a (below a (0, omega arith, refl)) number)
@@ -207,7 +208,7 @@ settled_as cells old new node other term r s = record {
 }
 
 -- what stood below a part stands for the node where it has its value and reaches no farther
-part_settles : (cells : List Cell) (old : News) (node : GroundNode) (p : ℕ) → IsNews cells old → p < length old.arena → IsBelowPart old.arena node p
+pub part_settles : (cells : List Cell) (old : News) (node : GroundNode) (p : ℕ) → IsNews cells old → p < length old.arena → IsBelowPart old.arena node p
     → ((values : List ℤ) → AreCellValues cells values → term_value old.arena values p ≡ node_value values (term_value old.arena values) node)
     → ((i : Interval) → IsNarrower (node_reach cells (term_reach old.arena cells) node) i → IsNarrower (term_reach old.arena cells p) i)
     → IsSettled cells old node old p

@@ -8,7 +8,7 @@ use Rattle.ep_base.specs.declared.operators.CompareOp.{CompareOp}
 use Rattle.ep_base.specs.declared.run_lists.Run.{Run}
 use Rattle.ep_ground.specs.Bounds.{term_reach}
 use Rattle.ep_ground.specs.Grounds.{GroundState}
-use Rattle.ep_ground.specs.Nodes.{GroundNode, constant, compare, member, negation, all_of, any_of, same_truth}
+use Rattle.ep_ground.specs.Nodes.{GroundNode, constant, least, greatest, safe_pick, compare, member, negation, all_of, any_of, same_truth}
 use Rattle.ep_reach.specs.Narrowing.{IsNarrower}
 
 -- the number that a node is alone
@@ -50,7 +50,8 @@ IsOfTruths i = IsNarrower i truth_interval
 
 -- Numbers alone among its parts decide nothing about a node: a comparison is of two different terms, of which one isn't a number alone,
 -- an "if and only if" likewise, a membership isn't of a number alone, an "and" and an "or" have a part and none that is a number alone,
--- and a negation is neither of a number alone nor of a comparison.
+-- a negation is neither of a number alone nor of a comparison, a least and a greatest aren't of one part, and of the indices of a pick
+-- one isn't a number alone.
 unfoldable pub IsOpen : List GroundNode → GroundNode → Type 0
 IsOpen nodes (compare op a b) = (a ≢ b) × (IsNumber nodes a → IsNumber nodes b → ⊥)
 IsOpen nodes (same_truth a b) = (a ≢ b) × (IsNumber nodes a → IsNumber nodes b → ⊥)
@@ -58,6 +59,9 @@ IsOpen nodes (member a ns) = IsNumber nodes a → ⊥
 IsOpen nodes (all_of ts) = (ts ≢ []) × All (λ t. IsNumber nodes t → ⊥) ts
 IsOpen nodes (any_of ts) = (ts ≢ []) × All (λ t. IsNumber nodes t → ⊥) ts
 IsOpen nodes (negation a) = (IsNumber nodes a → ⊥) × (IsComparing nodes a → ⊥)
+IsOpen nodes (least ts) = length ts ≢ 1
+IsOpen nodes (greatest ts) = length ts ≢ 1
+IsOpen nodes (safe_pick ts keys indices) = All (IsNumber nodes) indices → ⊥
 IsOpen nodes _ = Unit {0}
 
 -- How far its parts reach tells nothing about a node: a comparison or a membership doesn't hold of all numbers in the reaches of its

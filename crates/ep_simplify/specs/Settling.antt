@@ -1,9 +1,9 @@
 -- What it is to put terms of a new ground in the place of nodes.
-use Rattle.std.specs.Prelude.{◌≡◌, ◌≢◌, ◌⊎◌, ℕ, ◌<◌, ◌≤◌, Bool, true, not, ℤ, List, [], ◌∷◌, ◌++◌, length, filter, fold, IsSome, is_some, Option, Some, slice_index_or}
+use Rattle.std.specs.Prelude.{◌≡◌, ◌≢◌, ◌⊎◌, ℕ, ◌<◌, ◌≤◌, Bool, true, not, ℤ, List, [], ◌∷◌, ◌++◌, length, filter, fold, map, IsSome, is_some, Option, Some, slice_index_or}
 use Rattle.std.specs.List.{All, Contains}
 use Rattle.ep_base.specs.Intervals.{Interval, IsWithinReach, only}
 use Rattle.ep_base.specs.Numbers.{is_one, of_bool}
-use Rattle.ep_base.specs.Reads.{IsWithinNumbers, same_bool}
+use Rattle.ep_base.specs.Reads.{IsWithinNumbers, safe_picked, same_bool}
 use Rattle.ep_defined.specs.Growing.{IsNodeAt, IsSafeOver}
 use Rattle.ep_ground.specs.ArenaSteps.{Interned}
 use Rattle.ep_ground.specs.Bounds.{node_reach, reach_at, term_reach}
@@ -94,6 +94,20 @@ IsTruthNumber nodes asked t = (n : ℤ) × (lone_number nodes t ≡ Some n) × (
 -- those of some terms that are no numbers alone
 abbrev pub open_parts : List GroundNode → List ℕ → List ℕ
 open_parts nodes ts = filter (λ t. not (is_some (lone_number nodes t))) ts
+
+-- where all nodes are near, a node reaches some other number than this one, whichever it is
+abbrev pub ReachesMore : List Cell → News → GroundNode → Type 0
+ReachesMore cells news node =
+    AreNear news → IsNearOver cells news.arena node → (n : ℤ) → node_reach cells (term_reach news.arena cells) node ≡ only n → ⊥
+
+-- some terms are numbers alone, in order these
+abbrev pub AreNumbers : List GroundNode → List ℕ → List ℤ → Type 0
+AreNumbers nodes ts ns = map (lone_number nodes) ts ≡ map (λ n. Some n) ns
+
+-- whatever numbers these terms have, a pick among them by these keys has that of this one of them where its indices are these numbers
+pub record Picks (ts : List ℕ) (keys : List (List ℤ)) (indices : List ℤ) (t : ℕ) : Type 0 where
+  pub among : Contains ts t
+  pub value : (x : ℕ → ℤ) → safe_picked (map x ts) keys indices ≡ x t
 
 -- what a node is that tells of its negation
 unfoldable pub negated_of : GroundNode → Negated

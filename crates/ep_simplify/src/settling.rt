@@ -1,21 +1,21 @@
 //! The term that stands for a node over new terms: the node's own, or that of what the node comes to.
 
-ghost use Rattle.std.specs.Prelude.{◌≡◌, ◌≢◌, ◌-◌, ◌<◌, ◌^◌, ◌∷◌, [], Bool, true, false, ℤ, length, List, None, is_some, IfOk, IfSome};
+ghost use Rattle.std.specs.Prelude.{◌≡◌, ◌≢◌, ◌-◌, ◌<◌, ◌^◌, ◌∷◌, [], Bool, true, false, ℤ, length, List, None, is_some, option_and_then, position, slice_get, IfOk, IfSome};
 ghost use Rattle.std.specs.List.{All, Any};
-ghost use Rattle.ep_base.specs.Numbers.{of_bool};
+ghost use Rattle.ep_base.specs.Numbers.{of_bool, same_numbers};
 ghost use Rattle.ep_defined.specs.Growing.{IsNodeAt, IsSafeOver};
 ghost use Rattle.ep_base.specs.Intervals.{only};
 ghost use Rattle.ep_ground.specs.Bounds.{node_reach, term_reach};
-ghost use Rattle.ep_ground.specs.Nodes.{all_of, any_of, compare, constant, member, negation, parts_of, same_truth};
+ghost use Rattle.ep_ground.specs.Nodes.{all_of, any_of, compare, constant, greatest, least, member, negation, parts_of, safe_pick, same_truth};
 ghost use Rattle.ep_ground.specs.NodeViews.{plain_node};
 ghost use Rattle.ep_ground.specs.declared.cells.Cell.{Cell};
 ghost use Rattle.ep_simplify.specs.Decided.{Decides, DecidesMember, IsNumber, lone_number};
 ghost use Rattle.ep_simplify.specs.Settling as specs;
-ghost use Rattle.ep_simplify.specs.Settling.{AlwaysSays, AreNear, IsBeside, IsWhatIsLeft, IsNearOver, IsNews, IsSettled, IsTaken, IsTruthNumber, negated_of};
+ghost use Rattle.ep_simplify.specs.Settling.{AlwaysSays, AreNear, AreNumbers, IsBeside, IsWhatIsLeft, IsNearOver, IsNews, IsSettled, IsTaken, IsTruthNumber, Picks, ReachesMore, negated_of};
 
 use crate::news::{News, is_truth, number_in, reach_in, span_in, take};
 use crate::truths::{decided, holds, is_member, is_said};
-use ep_base::{CompareOp, Memory, Runs};
+use ep_base::{CompareOp, Key, Memory, Runs};
 use ep_ground::{Cell, Node, Term};
 use std::alloc::Global;
 
@@ -461,6 +461,159 @@ fn equivalence(news: &mut News, cells: &[Cell], a: Term, b: Term) -> Result<Term
     }
 }
 
+/// The one term, where there is no other.
+fn lone_part(parts: &[Term]) -> Option<Term>
+    ensures one { IfSome result (λ part. parts.now ≡ part ∷ []) }
+    ensures none { result ≡ None → length parts.now ≢ 1 }
+{
+    match parts {
+        [part] => Some(*part),
+        _ => None,
+    }
+}
+
+/// The term that stands for the least of some terms.
+fn least_part(news: &mut News, cells: &[Cell], parts: Vec<Term>) -> Result<Term, Memory>
+    requires news { IsNews cells.now news.old }
+    requires room { length news.old.arena < 2 ^ 32 - 1 }
+    requires parts { All (λ t. t < length news.old.arena) parts.items }
+    requires safe { IsSafeOver (length cells.now) (least parts.items) }
+    requires untold { ReachesMore cells.now news.old (least parts.items) }
+    ensures { IfOk result (λ term. IsSettled cells.now news.old (least parts.items) news.new term) }
+{
+    if let Some(part) = lone_part(&parts) {
+        return Ok(part);
+    }
+    let own = take(news, cells, Node::Min(parts))?;
+    Ok(own)
+}
+
+/// The term that stands for the greatest of some terms.
+fn greatest_part(news: &mut News, cells: &[Cell], parts: Vec<Term>) -> Result<Term, Memory>
+    requires news { IsNews cells.now news.old }
+    requires room { length news.old.arena < 2 ^ 32 - 1 }
+    requires parts { All (λ t. t < length news.old.arena) parts.items }
+    requires safe { IsSafeOver (length cells.now) (greatest parts.items) }
+    requires untold { ReachesMore cells.now news.old (greatest parts.items) }
+    ensures { IfOk result (λ term. IsSettled cells.now news.old (greatest parts.items) news.new term) }
+{
+    if let Some(part) = lone_part(&parts) {
+        return Ok(part);
+    }
+    let own = take(news, cells, Node::Max(parts))?;
+    Ok(own)
+}
+
+/// The numbers that some terms are alone, where each is one.
+fn numbers_in(alloc: Global, news: &News, terms: &[Term]) -> Result<Option<Vec<i64>>, Memory>
+    requires { All (λ t. t < length news.now.arena) terms.now }
+    ensures found { IfOk result (λ found. IfSome found (λ numbers. AreNumbers news.now.arena terms.now numbers.items)) }
+    ensures none { IfOk result (λ found. found ≡ None → All (IsNumber news.now.arena) terms.now → ⊥) }
+{
+    let mut numbers = Vec::new(alloc);
+    for term in terms {
+        let Some(number) = number_in(news, *term) else {
+            return Ok(None);
+        };
+        numbers.push(number)?;
+    }
+    Ok(Some(numbers))
+}
+
+/// Whether a key has these numbers.
+fn has_numbers(key: &Key, numbers: &[i64]) -> bool
+    ensures { result ≡ same_numbers key.now numbers.now }
+{
+    key.numbers() == numbers
+}
+
+/// The place of the first key that has these numbers.
+fn place_of(keys: &[Key], numbers: &[i64]) -> Option<usize>
+    ensures { result ≡ position (λ key. same_numbers key numbers.now) keys.now }
+{
+    keys.iter().position(|key| has_numbers(key, numbers))
+}
+
+/// The part at a place.
+fn part_of(parts: &[Term], place: usize) -> Option<Term>
+    ensures { result ≡ slice_get parts.now place }
+{
+    parts.get(place).copied()
+}
+
+/// The part at the place of the first key that has these numbers.
+fn part_at(parts: &[Term], keys: &[Key], numbers: &[i64]) -> Option<Term>
+    ensures { result ≡ option_and_then (slice_get parts.now) (position (λ key. same_numbers key numbers.now) keys.now) }
+{
+    match place_of(keys, numbers) {
+        Some(place) => part_of(parts, place),
+        None => None,
+    }
+}
+
+/// The part that is picked where the indices are these numbers; there is none where there are no parts.
+fn picked_part(parts: &[Term], keys: &[Key], numbers: &[i64]) -> Option<Term>
+    ensures picks { IfSome result (λ part. Picks parts.now keys.now numbers.now part) }
+    ensures none { result ≡ None → parts.now ≡ [] }
+{
+    if let Some(part) = part_at(parts, keys, numbers) {
+        return Some(part);
+    }
+    part_of(parts, 0)
+}
+
+/// The term that stands for a pick whose indices are these numbers.
+fn read_part(
+    news: &mut News,
+    cells: &[Cell],
+    parts: Vec<Term>,
+    keys: Vec<Key>,
+    indices: &[Term],
+    numbers: &[i64],
+) -> Result<Term, Memory>
+    requires news { IsNews cells.now news.old }
+    requires room { length news.old.arena < 2 ^ 32 - 1 }
+    requires parts { All (λ t. t < length news.old.arena) parts.items }
+    requires indices { All (λ t. t < length news.old.arena) indices.now }
+    requires numbers { AreNumbers news.old.arena indices.now numbers.now }
+    ensures { IfOk result (λ term. IsSettled cells.now news.old (safe_pick parts.items keys.items indices.now) news.new term) }
+{
+    if let Some(part) = picked_part(&parts, &keys, numbers) {
+        return Ok(part);
+    }
+    let nothing = number(news, cells, 0)?;
+    Ok(nothing)
+}
+
+/// The term that stands for a pick.
+fn pick(
+    alloc: Global,
+    news: &mut News,
+    cells: &[Cell],
+    parts: Vec<Term>,
+    keys: Vec<Key>,
+    indices: Vec<Term>,
+) -> Result<Term, Memory>
+    requires news { IsNews cells.now news.old }
+    requires room { length news.old.arena < 2 ^ 32 - 1 }
+    requires parts { All (λ t. t < length news.old.arena) parts.items }
+    requires indices { All (λ t. t < length news.old.arena) indices.items }
+    requires untold { ReachesMore cells.now news.old (safe_pick parts.items keys.items indices.items) }
+    ensures { IfOk result (λ term. IsSettled cells.now news.old (safe_pick parts.items keys.items indices.items) news.new term) }
+{
+    let found = numbers_in(alloc, news, &indices)?;
+    match found {
+        Some(numbers) => {
+            let part = read_part(news, cells, parts, keys, &indices, &numbers)?;
+            Ok(part)
+        }
+        None => {
+            let own = take(news, cells, Node::SafePick(parts, keys, indices))?;
+            Ok(own)
+        }
+    }
+}
+
 /// The number that a node is whatever numbers the cells have, where its reach tells it.
 fn number_of(news: &News, cells: &[Cell], node: &Node) -> Option<i64>
     ensures says { IfSome result (λ number. IsNews cells.now news.now
@@ -484,11 +637,22 @@ fn judged(alloc: Global, news: &mut News, cells: &[Cell], node: Node) -> Result<
     requires room { length news.old.arena < 2 ^ 32 - 1 }
     requires parts { All (λ t. t < length news.old.arena) (parts_of (plain_node node)) }
     requires safe { IsSafeOver (length cells.now) (plain_node node) }
-    requires untold { AreNear news.old → IsNearOver cells.now news.old.arena (plain_node node)
-        → (n : ℤ) → node_reach cells.now (term_reach news.old.arena cells.now) (plain_node node) ≡ only n → ⊥ }
+    requires untold { ReachesMore cells.now news.old (plain_node node) }
     ensures { IfOk result (λ term. IsSettled cells.now news.old (plain_node node) news.new term) }
 {
     match node {
+        Node::Min(parts) => {
+            let term = least_part(news, cells, parts)?;
+            Ok(term)
+        }
+        Node::Max(parts) => {
+            let term = greatest_part(news, cells, parts)?;
+            Ok(term)
+        }
+        Node::SafePick(parts, keys, indices) => {
+            let part = pick(alloc, news, cells, parts, keys, indices)?;
+            Ok(part)
+        }
         Node::Compare(op, a, b) => {
             let term = comparison(news, cells, op, a, b)?;
             Ok(term)

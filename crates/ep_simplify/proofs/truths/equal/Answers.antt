@@ -1,4 +1,4 @@
-use Rattle.std.proofs.Common.{false, rules, true}
+use Rattle.std.proofs.Common.{false, rules}
 use Rattle.ep_numbers.specs.Spans.{interval_of}
 use Rattle.ep_simplify.proofs.Deciding.{equal_always, equal_never, equal_never_too, equal_open_above, equal_open_below, less_is, not_past, words_lt}
 use Rattle.ep_simplify.proofs.truths.equal.Goals as goal
