@@ -1,126 +1,172 @@
-//! Each call once, and the types between threads.
+//! Each call once, and the types between threads. What calls give is told as a text.
 
-use crate::numbers::clause;
+use crate::numbers::{clause_of, push_clause};
+use crate::texts::{add, push_line};
 use cnf_core::{
     CellNote, Clause, ClauseList, Condition, Event, Formula, Lit, Log,
     an_effective_step_needs_its_last_literal, keeping_composes, new_steps_are_few,
     no_step_is_effective_after_a_conflict, valid_steps_follow,
 };
 use sat_proof::{Line, Proof, put_in_order};
+use std::alloc::Global;
+use std::process::Abort;
 use std::test::Fail;
 
-fn is_send_and_sync<T: Send + Sync>() {}
-
-#[test]
-fn a_clause_has_each_literal_once_and_in_order(rt: HostRuntime) -> Result<(), Fail> {
-    let made = clause(rt.alloc(), &[3, -1, 2, 3, 1, -1, -2])?;
-    let signs = [(1, true), (1, false), (2, true), (2, false), (3, true)];
-    assert_eq!(rt; made.lits().len(), 5);
-    for (lit, (var, positive)) in made.lits().iter().zip(signs) {
-        assert_eq!(rt; (lit.var(), lit.positive()), (var, positive));
-        assert_eq!(rt; lit.negated().negated(), *lit);
+/// Whether each literal is the contrary of its contrary.
+fn are_negated_twice(lits: &[Lit]) -> bool {
+    for lit in lits {
+        if lit.negated().negated() != *lit {
+            return false;
+        }
     }
-    assert_eq!(rt; made.greatest_variable(), 3);
-    assert_eq!(rt; made.clone()?.lits(), made.lits());
-    assert_eq!(rt; clause(rt.alloc(), &[])?.greatest_variable(), 0);
+    true
+}
+
+/// The greatest variable of a clause, and its literals. A copy has the same.
+fn clause_said(alloc: Global, numbers: &str) -> Result<String, Fail> {
+    let made = clause_of(alloc, numbers)?;
+    let copy = made.clone()?;
+    if copy.lits() != made.lits() || !are_negated_twice(made.lits()) {
+        return Err(Fail::new("another copy, or another literal"));
+    }
+    let mut whole = format!(in alloc; "{}:", made.greatest_variable())?;
+    push_clause(alloc, &mut whole, made.lits())?;
+    Ok(whole)
+}
+
+/// Two variables that come into a formula, and how many variables and clauses it has then; and the same of one that begins with variables.
+fn formula_said(alloc: Global) -> Result<String, Fail> {
+    let mut formula = Formula::new(alloc);
+    let first = formula.fresh()?;
+    let second = formula.fresh()?;
+    for numbers in ["1 2", "1 -2", "-1 -1"] {
+        add(alloc, &mut formula, numbers)?;
+    }
+    let read = Formula::with_vars(alloc, 7);
+    Ok(format!(in alloc;
+        "{first} {second}, {} {}, {} {}",
+        formula.vars(),
+        formula.clauses().len(),
+        read.vars(),
+        read.clauses().len()
+    )?)
+}
+
+/// Adds givens to a log.
+fn give(alloc: Global, log: &mut Log, clauses: &str) -> Result<(), Fail> {
+    for numbers in clauses.split('/') {
+        log.given(clause_of(alloc, numbers)?)?;
+    }
     Ok(())
 }
 
-#[test]
-fn a_formula_grows_by_variables_and_clauses(rt: HostRuntime) -> Result<(), Fail> {
-    let mut formula = Formula::new(rt.alloc());
-    assert_eq!(rt; formula.fresh()?, 1);
-    assert_eq!(rt; formula.fresh()?, 2);
-    for literals in [[1, 2], [1, -2], [-1, -1]] {
-        let added = clause(rt.alloc(), &literals)?;
-        assert!(rt; added.greatest_variable() <= formula.vars());
-        formula.add(added)?;
-    }
-    assert_eq!(rt; (formula.vars(), formula.clauses().len()), (2, 3));
-    let read = Formula::with_vars(rt.alloc(), 7);
-    assert_eq!(rt; (read.vars(), read.clauses().len()), (7, 0));
-    Ok(())
-}
-
-#[test]
-fn a_log_keeps_its_events_notes_and_base(rt: HostRuntime) -> Result<(), Fail> {
-    let mut log = Log::new(rt.alloc());
-    assert!(rt; log.is_empty());
-    log.given(clause(rt.alloc(), &[1, 2])?)?;
-    let note = CellNote {
-        cell: Vec::from_slice(rt.alloc(), b"x")?,
+/// A note of a cell.
+fn note(alloc: Global) -> Result<CellNote, Fail> {
+    Ok(CellNote {
+        cell: Vec::from_slice(alloc, "x".as_bytes())?,
         value: -1,
         lit: Lit::new(1, false),
-    };
-    log.mark(vec![in rt.alloc(); note]?, 1);
-    for literals in [[1, -2], [-1, 2], [-1, -2]] {
-        log.given(clause(rt.alloc(), &literals)?)?;
+    })
+}
+
+/// How many events, steps and notes a log has, and its base.
+fn counts(alloc: Global, log: &Log) -> Result<String, Fail> {
+    let (events, steps) = (log.events().len(), log.steps());
+    Ok(format!(in alloc; "{events} {steps} {} {}", log.notes().len(), log.base())?)
+}
+
+/// How many literals and hints the last event has, where it is a step.
+fn last_step(log: &Log) -> Option<(usize, usize)> {
+    match log.events().last() {
+        Some(Event::Step(last, hints)) => Some((last.lits().len(), hints.len())),
+        _ => None,
     }
-    assert_eq!(rt; (log.events().len(), log.steps()), (4, 0));
-    assert_eq!(rt; (log.notes().len(), log.base()), (1, 1));
-    log.step(clause(rt.alloc(), &[1])?, vec![in rt.alloc(); 0, 1]?)?;
-    log.step(clause(rt.alloc(), &[])?, vec![in rt.alloc(); 4, 2, 3]?)?;
-    assert_eq!(rt; (log.events().len(), log.steps()), (6, 1));
-    assert!(rt; !log.is_empty());
-    match log.events() {
-        [.., Event::Step(last, hints)] => {
-            assert_eq!(rt; (last.lits().len(), hints.len()), (0, 3));
-        }
-        _ => assert!(rt; false, "the last event is a step"),
-    }
+}
+
+/// A log with a note on its first given, and three more givens.
+fn noted(alloc: Global) -> Result<Log, Fail> {
+    let mut log = Log::new(alloc);
+    log.given(clause_of(alloc, "1 2")?)?;
+    log.mark(vec![in alloc; note(alloc)?]?, 1);
+    give(alloc, &mut log, "1 -2/-1 2/-1 -2")?;
+    Ok(log)
+}
+
+/// Adds two steps to a log of four events.
+fn take_steps(rt: &impl Abort, alloc: Global, log: &mut Log) -> Result<(), Fail> {
+    assert!(rt; log.events().len() == 4);
+    log.step(clause_of(alloc, "1")?, vec![in alloc; 0, 1]?)?;
+    log.step(clause_of(alloc, "")?, vec![in alloc; 4, 2, 3]?)?;
     Ok(())
 }
 
-#[test]
-fn a_proof_holds_lines(rt: HostRuntime) -> Result<(), Fail> {
-    let mut proof = Proof::new(rt.alloc());
-    proof.add(5, clause(rt.alloc(), &[1])?.lits(), &[1, 2])?;
+/// What is counted of a log before and behind two steps.
+fn log_said(rt: &impl Abort, alloc: Global) -> Result<String, Fail> {
+    let mut log = noted(alloc)?;
+    let before = counts(alloc, &log)?;
+    take_steps(rt, alloc, &mut log)?;
+    let behind = counts(alloc, &log)?;
+    assert!(rt; Log::new(alloc).is_empty() && !log.is_empty());
+    assert!(rt; last_step(&log) == Some((0, 3)));
+    Ok(format!(in alloc; "{before}, {behind}")?)
+}
+
+/// The lines of a proof.
+fn proof_said(alloc: Global) -> Result<String, Fail> {
+    let mut proof = Proof::new(alloc);
+    proof.add(5, clause_of(alloc, "1")?.lits(), &[1, 2])?;
     proof.delete(&[1, 2])?;
-    proof.add(7, clause(rt.alloc(), &[])?.lits(), &[5])?;
-    match proof.rows() {
-        [first, second, third] => {
-            assert!(rt;
-                matches!(
-                    proof.line(first),
-                    Line::Add {
-                        id: 5,
-                        clause: [_],
-                        hints: [1, 2]
-                    }
-                )
-            );
-            assert!(rt; matches!(proof.line(second), Line::Delete { ids: [1, 2] }));
-            assert!(rt;
-                matches!(
-                    proof.line(third),
-                    Line::Add {
-                        id: 7,
-                        clause: [],
-                        hints: [5]
-                    }
-                )
-            );
-        }
-        _ => assert!(rt; false, "three lines"),
+    proof.add(7, clause_of(alloc, "")?.lits(), &[5])?;
+    let mut whole = String::new(alloc);
+    for row in proof.rows() {
+        push_line(alloc, &mut whole, proof.line(row))?;
     }
-    Ok(())
+    Ok(whole)
+}
+
+/// The clauses of a list, one of them from literals that are in order.
+fn list_said(alloc: Global) -> Result<String, Fail> {
+    let first = Clause::from_ordered(alloc, clause_of(alloc, "1 -2")?.lits())?;
+    let mut list = ClauseList::new(alloc);
+    list.push(first.lits())?;
+    list.push(clause_of(alloc, "")?.lits())?;
+    list.push(clause_of(alloc, "2 -1 2")?.lits())?;
+    let mut whole = String::new(alloc);
+    for place in 0..list.len() {
+        push_clause(alloc, &mut whole, list.clause(place))?;
+        whole.push(';')?;
+    }
+    Ok(whole)
+}
+
+/// Literals that are put in order.
+fn ordered_said(alloc: Global) -> Result<String, Fail> {
+    let mut found = vec![in alloc; Lit::new(2, true), Lit::new(1, false), Lit::new(2, true)]?;
+    put_in_order(&mut found);
+    let mut whole = String::new(alloc);
+    push_clause(alloc, &mut whole, &found)?;
+    Ok(whole)
+}
+
+/// Whether two texts are the same.
+fn same(rt: &impl Abort, said: String, wanted: &str) {
+    assert_eq!(rt; said.as_str(), wanted);
 }
 
 #[test]
-fn clauses_lie_side_by_side(rt: HostRuntime) -> Result<(), Fail> {
-    let mut found = vec![in rt.alloc(); Lit::new(2, true), Lit::new(1, false), Lit::new(2, true)]?;
-    put_in_order(&mut found);
-    let first = Clause::from_ordered(rt.alloc(), clause(rt.alloc(), &[1, -2])?.lits())?;
-    let mut list = ClauseList::new(rt.alloc());
-    list.push(first.lits())?;
-    list.push(clause(rt.alloc(), &[])?.lits())?;
-    list.push(clause(rt.alloc(), &[2, -1, 2])?.lits())?;
-    let mut sizes = Vec::new(rt.alloc());
-    for place in 0..list.len() {
-        sizes.push(list.clause(place).len())?;
-    }
-    assert_eq!(rt; sizes.as_slice(), [2, 0, 2].as_slice());
-    assert_eq!(rt; list.clause(2), found.as_slice());
+fn each_call_gives_what_it_says(rt: HostRuntime) -> Result<(), Fail> {
+    let alloc = rt.alloc();
+    same(
+        &rt,
+        clause_said(alloc, "3 -1 2 3 1 -1 -2")?,
+        "3: 1 -1 2 -2 3",
+    );
+    same(&rt, clause_said(alloc, "")?, "0:");
+    same(&rt, formula_said(alloc)?, "1 2, 2 3, 7 0");
+    same(&rt, log_said(&rt, alloc)?, "4 0 1 1, 6 1 1 1");
+    same(&rt, proof_said(alloc)?, "5: 1; 1 2.d 1 2.7:; 5.");
+    same(&rt, list_said(alloc)?, " 1 -2;; -1 2;");
+    same(&rt, ordered_said(alloc)?, " -1 2");
     Ok(())
 }
 
@@ -141,8 +187,11 @@ impl Condition for Always {
     ghost holds = { λ s. Unit {0} };
 }
 
+fn is_send_and_sync<T: Send + Sync>() {}
+
+/// Every type goes between threads.
 #[test]
-fn every_type_goes_between_threads() {
+fn the_laws_can_be_called() {
     is_send_and_sync::<Lit>();
     is_send_and_sync::<Clause>();
     is_send_and_sync::<Formula>();
@@ -151,10 +200,6 @@ fn every_type_goes_between_threads() {
     is_send_and_sync::<Log>();
     is_send_and_sync::<Line>();
     is_send_and_sync::<Proof>();
-}
-
-#[test]
-fn the_laws_can_be_called() {
     valid_steps_follow();
     new_steps_are_few();
     no_step_is_effective_after_a_conflict();

@@ -54,3 +54,17 @@ pub(crate) fn text_of(alloc: Global, row: &str) -> Result<String, AllocError> {
     }
     Ok(text)
 }
+
+/// Adds the literals of a clause as numbers, each behind a space.
+pub(crate) fn push_clause(
+    alloc: Global,
+    whole: &mut String,
+    clause: &[Lit],
+) -> Result<(), AllocError> {
+    for lit in clause {
+        let sign = if lit.positive() { "" } else { "-" };
+        let word = format!(in alloc; " {sign}{}", lit.var())?;
+        whole.push_str(word.as_str())?;
+    }
+    Ok(())
+}

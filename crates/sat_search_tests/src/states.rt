@@ -2,10 +2,10 @@
 
 ghost use Rattle.std.specs.Prelude.{◌≡◌, ◌≤◌, ◌<◌, length, IfOk};
 
-use crate::numbers::{clause, numbers_of};
+use crate::numbers::{clause, clause_of, numbers_of, push_clause};
 use cnf_core::{Clause, Lit, MOST_VARIABLE};
 use sat_state::{Propagated, ShortLit, State};
-use std::alloc::Global;
+use std::alloc::{AllocError, Global};
 use std::process::Abort;
 use std::test::Fail;
 
@@ -100,8 +100,42 @@ fn decide_small(rt: &impl Abort, state: &mut State, lit: Lit)
     decide(rt, state, lit);
 }
 
+const MANY: u64 = 100_000;
+
+// Adds the clause that one variable implies the next.
+fn add_implication(rt: &impl Abort, alloc: Global, state: &mut State, var: u64) -> Result<(), Fail>
+    ensures { IfOk result (λ _. state.old.vars ≤ state.new.vars) }
+{
+    assert!(rt; 1 <= var && var < MOST_VARIABLE);
+    let mut lits = Vec::new(alloc);
+    lits.push(Lit::new(var, false))?;
+    lits.push(Lit::new(var + 1, true))?;
+    let clause = Clause::new(alloc, lits)?;
+    assert!(rt; state.level() == 0);
+    Ok(state.add(clause)?)
+}
+
+// Adds the clauses that each of many variables implies the next.
+fn add_chain(rt: &impl Abort, alloc: Global, state: &mut State) -> Result<(), Fail>
+    requires { 9 ≤ state.old.vars }
+    ensures { IfOk result (λ _. 9 ≤ state.new.vars) }
+{
+    for var in 1..MANY {
+        add_implication(rt, alloc, state, var)?;
+    }
+    Ok(())
+}
+
+// Asserts that just these variables are true.
+fn assert_all_true(rt: &impl Abort, state: &State) {
+    assert!(rt; state.trail().len() as u64 == MANY);
+    for var in 1..MANY + 1 {
+        assert!(rt; state.value(var) == Some(true));
+    }
+}
+
 // A step's word, and its numbers. `add` a clause, `decide` a literal, `propagate` to the conflict of this number, or to none, go
-// `back` to a level; `true` are exactly these literals, and a variable has its value `from` this level and this clause.
+// `back` to a level; `true` are exactly these literals, and a variable has its value `from` this level and this clause. A `chain` are the clauses that each of many variables implies the next, and `all` of these are true.
 fn take(rt: &impl Abort, alloc: Global, state: &mut State, step: &str) -> Result<(), Fail>
     requires { 9 ≤ state.old.vars }
     ensures { IfOk result (λ _. 9 ≤ state.new.vars) }
@@ -115,6 +149,8 @@ fn take(rt: &impl Abort, alloc: Global, state: &mut State, step: &str) -> Result
         "conflict" => propagate(rt, state, Some(first(&numbers).unsigned_abs())),
         "back" => back(rt, state, first(&numbers).unsigned_abs()),
         "true" => assert_true(rt, state, &numbers),
+        "chain" => add_chain(rt, alloc, state)?,
+        "all" => assert_all_true(rt, state),
         _ => assert_given(rt, state, &numbers),
     }
     Ok(())
@@ -137,7 +173,13 @@ add -1 2, add -2 3, add 1, propagate, true 1 2 3
 add 1 2, add -1 2, add 3 -3, propagate, true
 add 1, add, conflict 1, conflict 1, true 1
 add 1, add -1, conflict 1, true 1
-add 1, propagate, add -1 12, propagate, true 1 12, add -1 -12, conflict 2";
+add 1, propagate, add -1 12, propagate, true 1 12, add -1 -12, conflict 2
+chain, add 1, propagate, all
+chain, decide 1, propagate, all
+add 9, add -1 2, add -2 -9 3, add -4 5, add -4 -3 -5, add -3 4 6, propagate, \
+decide 1, propagate, true 9 1 2 3, from 9 0 0, from 1 1, from 3 1 2, \
+decide 4, conflict 3, true 9 1 2 3 4 -5, back 2, true 9 1 2 3 4 -5, back 1, true 9 1 2 3, \
+decide -4, propagate, true 9 1 2 3 -4 6, from 6 2 5, back 0, true 9, propagate, true 9";
 
 #[test]
 fn formulas_are_propagated_as_worked_out_by_hand(rt: HostRuntime) -> Result<(), Fail> {
@@ -145,15 +187,6 @@ fn formulas_are_propagated_as_worked_out_by_hand(rt: HostRuntime) -> Result<(), 
         run(&rt, rt.alloc(), steps)?;
     }
     Ok(())
-}
-
-#[test]
-fn decisions_are_followed_and_taken_back(rt: HostRuntime) -> Result<(), Fail> {
-    let steps = "add 9, add -1 2, add -2 -9 3, add -4 5, add -4 -3 -5, add -3 4 6, propagate, \
-        decide 1, propagate, true 9 1 2 3, from 9 0 0, from 1 1, from 3 1 2, \
-        decide 4, conflict 3, true 9 1 2 3 4 -5, back 2, true 9 1 2 3 4 -5, back 1, true 9 1 2 3, \
-        decide -4, propagate, true 9 1 2 3 -4 6, from 6 2 5, back 0, true 9, propagate, true 9";
-    run(&rt, rt.alloc(), steps)
 }
 
 #[test]
@@ -170,86 +203,30 @@ fn a_clause_is_added_where_it_is_unit(rt: HostRuntime) -> Result<(), Fail> {
     Ok(())
 }
 
-// Whether these literals are those, one by one.
-fn are_same(short: &[ShortLit], lits: &[Lit]) -> bool {
-    if short.len() != lits.len() {
-        return false;
+// Adds short literals as numbers, each behind a space.
+fn push_short(alloc: Global, whole: &mut String, lits: &[ShortLit]) -> Result<(), AllocError> {
+    for lit in lits {
+        push_clause(alloc, whole, &[lit.lit()])?;
     }
-    for (one, other) in short.iter().zip(lits) {
-        if one.lit() != *other {
-            return false;
-        }
-    }
-    true
+    Ok(())
 }
 
-// Whether two clauses that were added are read side by side.
-fn are_side_by_side(alloc: Global, first: &Clause, last: &Clause) -> Result<bool, Fail> {
+// Two clauses that were added, the last of them also as a clause.
+fn side_by_side(alloc: Global) -> Result<String, Fail> {
     let mut state = State::new(alloc, &[], 3)?;
-    state.add(first.clone()?)?;
-    state.add(last.clone()?)?;
-    let first_is_read = are_same(state.literals(0), first.lits());
-    let last_is_read = are_same(state.literals(1), last.lits())
-        && state.clause(1).lits() == last.lits();
-    Ok(first_is_read && last_is_read)
+    state.add(clause_of(alloc, "2 -1")?)?;
+    state.add(clause_of(alloc, "3")?)?;
+    let mut whole = String::new(alloc);
+    push_short(alloc, &mut whole, state.literals(0))?;
+    push_short(alloc, &mut whole, state.literals(1))?;
+    push_clause(alloc, &mut whole, state.clause(1).lits())?;
+    Ok(whole)
 }
 
 #[test]
 fn literals_are_read_side_by_side(rt: HostRuntime) -> Result<(), Fail> {
-    let first = clause(rt.alloc(), &[2, -1])?;
-    let last = clause(rt.alloc(), &[3])?;
-    assert!(rt; are_side_by_side(rt.alloc(), &first, &last)?);
-    Ok(())
-}
-
-// Adds the clause that one variable implies the next.
-fn add_implication(rt: &impl Abort, alloc: Global, state: &mut State, var: u64) -> Result<(), Fail>
-    ensures { IfOk result (λ _. state.old.vars ≤ state.new.vars) }
-{
-    assert!(rt; 1 <= var && var < MOST_VARIABLE);
-    let mut lits = Vec::new(alloc);
-    lits.push(Lit::new(var, false))?;
-    lits.push(Lit::new(var + 1, true))?;
-    let clause = Clause::new(alloc, lits)?;
-    assert!(rt; state.level() == 0);
-    Ok(state.add(clause)?)
-}
-
-const MANY: u64 = 100_000;
-
-// A state of the clauses that each of many variables implies the next.
-fn chain(rt: &impl Abort, alloc: Global) -> Result<State, Fail>
-    ensures { IfOk result (λ state. MANY ≤ state.vars) }
-{
-    let mut state = State::new(alloc, &[], MANY)?;
-    for var in 1..MANY {
-        add_implication(rt, alloc, &mut state, var)?;
-    }
-    Ok(state)
-}
-
-// Propagates, and asserts that all of many variables are true.
-fn assert_all_true(rt: &impl Abort, state: &mut State) {
-    propagate(rt, state, None);
-    assert!(rt; state.trail().len() as u64 == MANY);
-    for var in 1..MANY + 1 {
-        assert!(rt; state.value(var) == Some(true));
-    }
-}
-
-#[test]
-fn a_chain_of_a_hundred_thousand_is_followed(rt: HostRuntime) -> Result<(), Fail> {
-    let mut state = chain(&rt, rt.alloc())?;
-    add(&rt, rt.alloc(), &mut state, &[1])?;
-    assert_all_true(&rt, &mut state);
-    Ok(())
-}
-
-#[test]
-fn a_chain_of_a_hundred_thousand_is_followed_from_a_decision(rt: HostRuntime) -> Result<(), Fail> {
-    let mut state = chain(&rt, rt.alloc())?;
-    decide(&rt, &mut state, Lit::new(1, true));
-    assert_all_true(&rt, &mut state);
+    let said = side_by_side(rt.alloc())?;
+    assert_eq!(rt; said.as_str(), " -1 2 3 3");
     Ok(())
 }
 

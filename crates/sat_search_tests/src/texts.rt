@@ -2,7 +2,7 @@
 //!
 //! A row has a text, with `@` for the end of a line, and what is said of it, behind a `#`.
 
-use crate::numbers::{clause_of, text_of};
+use crate::numbers::{clause_of, push_clause, text_of};
 use cnf_core::{CellNote, Formula, Lit, Log};
 use sat_proof::Line;
 use sat_text::{CnfError, LogError, read_cnf, read_log, write_cnf, write_log};
@@ -11,7 +11,7 @@ use std::test::Fail;
 
 fn note(alloc: Global, value: i64, positive: bool) -> Result<CellNote, Fail> {
     Ok(CellNote {
-        cell: b"x".to_vec(alloc)?,
+        cell: Vec::from_slice(alloc, "x".as_bytes())?,
         value,
         lit: Lit::new(1, positive),
     })
@@ -34,20 +34,8 @@ fn reread(alloc: Global, text: &[u8]) -> Result<String, Fail> {
     }
 }
 
-/// The row and what is said of its text, where that isn't what the row says.
-fn wrong_formula(alloc: Global, row: &str) -> Result<String, Fail> {
-    let (text, want) = row.split_once('#').unwrap_or((row, ""));
-    let text = text_of(alloc, text)?;
-    let want = text_of(alloc, want)?;
-    let found = reread(alloc, text.as_bytes())?;
-    if found.as_str() == want.as_str() {
-        return Ok(String::new(alloc));
-    }
-    Ok(format!(in alloc; "{row} BUT {found}")?)
-}
-
-/// Adds a clause of two variables to a formula that has these.
-fn add(alloc: Global, f: &mut Formula, text: &str) -> Result<(), Fail> {
+/// Adds a clause to a formula that has its variables.
+pub(crate) fn add(alloc: Global, f: &mut Formula, text: &str) -> Result<(), Fail> {
     let next = clause_of(alloc, text)?;
     if next.greatest_variable() <= f.vars() {
         f.add(next)?;
@@ -64,61 +52,6 @@ fn written(alloc: Global) -> Result<Vec<u8>, Fail> {
     Ok(write_cnf(alloc, &f, &notes, 1)?)
 }
 
-#[test]
-fn a_formula_is_written_and_read_again(rt: HostRuntime) -> Result<(), Fail> {
-    let text = written(rt.alloc())?;
-    let wanted = "c cell x 0 -1\nc cell x 1 1\nc added 1\np cnf 2 2\n1 2 0\n-1 0\n";
-    assert_eq!(rt; text.as_slice(), wanted.as_bytes());
-    let again = reread(rt.alloc(), &text)?;
-    assert_eq!(rt; again.as_str(), wanted);
-    Ok(())
-}
-
-/// Texts with a fault, and its line.
-const BAD_FORMULAS: &str = "\
-#1
-@@#2
-p cnf 2 5@1 2 0@1 -2 0@-1 2 0@-1 -2 0#5
-p cnf 2 5@1 2 0@1 -2 0@-1 2 0@-1 -2 0@#5
-p cnf 2 1@1 2 0@1 0@#3
-p cnf 2 1@1 3 0@#2
-p cnf 2 1@1@x 0@#3
-p cnf 2 1@1 2@#2
-p cnf 2@c note@1 2 0@#3
-p cnf 2@#1
-p cnf 2 1 1@1 0@#1
-c x@p dnf 2 1@1 0@#2
-p cnf 2 1234567890123456789@#1
-p cnf -1 1@#1
-p cnf 2 1@1234567890123456789 0@#2
-p cnf 1 1@@@2 0@@#4";
-
-#[test]
-fn faults_of_a_formula_stand_at_their_line(rt: HostRuntime) -> Result<(), Fail> {
-    for row in BAD_FORMULAS.lines() {
-        let wrong = wrong_formula(rt.alloc(), row)?;
-        assert_eq!(rt; wrong.as_str(), "", "{row}");
-    }
-    Ok(())
-}
-
-/// Texts, and what is written of their formulas.
-const SPELLED: &str = "\
-p cnf 0 0#c added 0@p cnf 0 0@
-p cnf 999999999999999999 0@#c added 0@p cnf 999999999999999999 0@
-p cnf 1 1@0#c added 0@p cnf 1 1@0@
-c p cnf\r@ \t p  cnf 02 2 \r@-2@01 1 -0@@2 00#c added 0@p cnf 2 2@1 -2 0@2 0@
-c added 7@p cnf 1 1@c cell q[1,-2] 3 01@1@c cell of 1 1@c cell y 1  1@0@c added 1@#c cell q[1,-2] 3 1@c added 1@p cnf 1 1@1 0@";
-
-#[test]
-fn formulas_may_be_spelled_otherwise(rt: HostRuntime) -> Result<(), Fail> {
-    for row in SPELLED.lines() {
-        let wrong = wrong_formula(rt.alloc(), row)?;
-        assert_eq!(rt; wrong.as_str(), "", "{row}");
-    }
-    Ok(())
-}
-
 /// A log of two givens and a step.
 fn log_of(alloc: Global) -> Result<Log, Fail> {
     let mut log = Log::new(alloc);
@@ -128,26 +61,6 @@ fn log_of(alloc: Global) -> Result<Log, Fail> {
         log.step(clause_of(alloc, "1")?, [0, 1].to_vec(alloc)?)?;
     }
     Ok(log)
-}
-
-#[test]
-fn a_log_is_written_with_ids_of_its_givens_and_steps(rt: HostRuntime) -> Result<(), Fail> {
-    let log = log_of(rt.alloc())?;
-    let text = write_log(rt.alloc(), &log)?;
-    assert_eq!(rt; text.as_slice(), b"3 1 0 1 2 0\n".as_slice());
-    let lines = lines_of(rt.alloc(), &text)?;
-    assert_eq!(rt; lines.as_str(), "3: 1; 1 2.");
-    Ok(())
-}
-
-/// Adds the literals of a clause, each behind a space.
-fn push_clause(alloc: Global, whole: &mut String, clause: &[Lit]) -> Result<(), AllocError> {
-    for lit in clause {
-        let sign = if lit.positive() { "" } else { "-" };
-        let word = format!(in alloc; " {sign}{}", lit.var())?;
-        whole.push_str(word.as_str())?;
-    }
-    Ok(())
 }
 
 /// Adds hints, each behind a space.
@@ -169,7 +82,7 @@ fn push_ids(alloc: Global, whole: &mut String, ids: &[u64]) -> Result<(), AllocE
 }
 
 /// Adds a line: the id, literals and hints of an addition, or the ids of a deletion.
-fn push_line(alloc: Global, whole: &mut String, line: Line) -> Result<(), AllocError> {
+pub(crate) fn push_line(alloc: Global, whole: &mut String, line: Line) -> Result<(), AllocError> {
     match line {
         Line::Add { id, clause, hints } => {
             let word = format!(in alloc; "{id}:")?;
@@ -201,19 +114,50 @@ fn lines_of(alloc: Global, text: &[u8]) -> Result<String, Fail> {
     }
 }
 
-/// The row and what is said of its text, where that isn't what the row says.
-fn wrong_log(alloc: Global, row: &str) -> Result<String, Fail> {
-    let (text, want) = row.split_once('#').unwrap_or((row, ""));
-    let text = text_of(alloc, text)?;
-    let found = lines_of(alloc, text.as_bytes())?;
-    if found.as_str() == want {
-        return Ok(String::new(alloc));
+/// The first row of a table of whose text something else is said, with that. The text is a formula's, or else a log's.
+fn first_wrong(alloc: Global, is_formula: bool, table: &str) -> Result<String, Fail> {
+    for row in table.lines() {
+        let (text, want) = row.split_once('#').unwrap_or((row, ""));
+        let text = text_of(alloc, text)?;
+        let want = text_of(alloc, want)?;
+        let found = if is_formula {
+            reread(alloc, text.as_bytes())?
+        } else {
+            lines_of(alloc, text.as_bytes())?
+        };
+        if found.as_str() != want.as_str() {
+            return Ok(format!(in alloc; "{row} BUT {found}")?);
+        }
     }
-    Ok(format!(in alloc; "{row} BUT {found}")?)
+    Ok(String::new(alloc))
 }
 
-/// Texts with a fault, and its line.
-const BAD_LOGS: &str = "\
+/// Texts of formulas with a fault, and its line; and texts with what is written of their formulas.
+const FORMULAS: &str = "\
+#1
+@@#2
+p cnf 2 5@1 2 0@1 -2 0@-1 2 0@-1 -2 0#5
+p cnf 2 5@1 2 0@1 -2 0@-1 2 0@-1 -2 0@#5
+p cnf 2 1@1 2 0@1 0@#3
+p cnf 2 1@1 3 0@#2
+p cnf 2 1@1@x 0@#3
+p cnf 2 1@1 2@#2
+p cnf 2@c note@1 2 0@#3
+p cnf 2@#1
+p cnf 2 1 1@1 0@#1
+c x@p dnf 2 1@1 0@#2
+p cnf 2 1234567890123456789@#1
+p cnf -1 1@#1
+p cnf 2 1@1234567890123456789 0@#2
+p cnf 1 1@@@2 0@@#4
+p cnf 0 0#c added 0@p cnf 0 0@
+p cnf 999999999999999999 0@#c added 0@p cnf 999999999999999999 0@
+p cnf 1 1@0#c added 0@p cnf 1 1@0@
+c p cnf\r@ \t p  cnf 02 2 \r@-2@01 1 -0@@2 00#c added 0@p cnf 2 2@1 -2 0@2 0@
+c added 7@p cnf 1 1@c cell q[1,-2] 3 01@1@c cell of 1 1@c cell y 1  1@0@c added 1@#c cell q[1,-2] 3 1@c added 1@p cnf 1 1@1 0@";
+
+/// Texts of logs with a fault, and its line; and a text with its lines.
+const LOGS: &str = "\
 5 1 0 1 2 0@6 x#2
 5 1 0 1 2#1
 c note@@5 1 0 1 2 0 0@#3
@@ -222,24 +166,29 @@ c note@@5 1 0 1 2 0 0@#3
 5@#1
 5 d 1 2@#1
 5 d 1 -2 0@#1
-5 0 0@6 1 0 0@d#3";
+5 0 0@6 1 0 0@d#3
+c note@@ 5 2 -1 1 1 00 -3 4 -0\r@6\td 5 05 0@7 0 0#5: 1 -1 2; -3 4.d 5 5.7:;.";
 
 #[test]
-fn faults_of_a_log_stand_at_their_line(rt: HostRuntime) -> Result<(), Fail> {
-    for row in BAD_LOGS.lines() {
-        let wrong = wrong_log(rt.alloc(), row)?;
-        assert_eq!(rt; wrong.as_str(), "", "{row}");
+fn texts_are_read_or_refused_at_their_line(rt: HostRuntime) -> Result<(), Fail> {
+    for (is_formula, table) in [(true, FORMULAS), (false, LOGS)] {
+        let wrong = first_wrong(rt.alloc(), is_formula, table)?;
+        assert_eq!(rt; wrong.as_str(), "");
     }
     Ok(())
 }
 
-/// A text, and its lines.
-const LINES: &str = "\
-c note@@ 5 2 -1 1 1 00 -3 4 -0\r@6\td 5 05 0@7 0 0#5: 1 -1 2; -3 4.d 5 5.7:;.";
-
 #[test]
-fn lines_of_a_log_are_additions_and_deletions(rt: HostRuntime) -> Result<(), Fail> {
-    let wrong = wrong_log(rt.alloc(), LINES)?;
-    assert_eq!(rt; wrong.as_str(), "");
+fn what_is_written_is_read_again(rt: HostRuntime) -> Result<(), Fail> {
+    let alloc = rt.alloc();
+    let wanted = "c cell x 0 -1\nc cell x 1 1\nc added 1\np cnf 2 2\n1 2 0\n-1 0\n";
+    let text = written(alloc)?;
+    assert_eq!(rt; text.as_slice(), wanted.as_bytes());
+    let again = reread(alloc, &text)?;
+    assert_eq!(rt; again.as_str(), wanted);
+    let text = write_log(alloc, &log_of(alloc)?)?;
+    assert_eq!(rt; text.as_slice(), "3 1 0 1 2 0\n".as_bytes());
+    let lines = lines_of(alloc, &text)?;
+    assert_eq!(rt; lines.as_str(), "3: 1; 1 2.");
     Ok(())
 }
