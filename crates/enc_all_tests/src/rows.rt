@@ -203,11 +203,14 @@ pub(crate) fn con_of(alloc: Global, text: &str, truth: Option<u64>) -> Result<Co
     })
 }
 
-/// The constraints of a text, with `&` between any two.
-pub(crate) fn cons_of(alloc: Global, text: &str) -> Result<Vec<Con>, Fail> {
+/// The constraints of a text, with `&` between any two and this variable of their truth. `none` is no constraint.
+pub(crate) fn cons_of(alloc: Global, text: &str, truth: Option<u64>) -> Result<Vec<Con>, Fail> {
     let mut cons = Vec::new(alloc);
+    if text == "none" {
+        return Ok(cons);
+    }
     for said in text.split('&') {
-        cons.push(con_of(alloc, said, None)?)?;
+        cons.push(con_of(alloc, said, truth)?)?;
     }
     Ok(cons)
 }

@@ -1,10 +1,10 @@
-//! Whether a row of a table is right, and the tests, one for each table.
+//! Whether a row of a table is right, and the tests over all tables.
 
 use crate::deciding::{sizes, solutions};
 use crate::meanings::is_met;
 use crate::rows::{con_of, cons_of, domains_of, numbers_of, set_of};
 use crate::tables::{
-    CHOICES, COUNTS, OPERATIONS, ORDERS, PROBLEMS, SIZES, SUMS, TRUTHS, WIDE_SUMS,
+    CHOICES, COUNTS, OPERATIONS, ORDERS, PROBLEMS, SIZES, SUMS, TOLD_SIZES, TRUTHS, WIDE_SUMS,
 };
 use ep_flat::{Con, Flat};
 use std::alloc::Global;
@@ -90,16 +90,6 @@ fn is_right(alloc: Global, row: &str) -> Result<bool, Fail> {
     )
 }
 
-/// The first row of a table that isn't right.
-fn first_wrong(alloc: Global, table: &str) -> Result<Option<&str>, Fail> {
-    for row in table.lines() {
-        if !is_right(alloc, row)? {
-            return Ok(Some(row));
-        }
-    }
-    Ok(None)
-}
-
 /// Whether a list meets all constraints.
 fn meets_all(alloc: Global, list: &[i64], cons: &[Con]) -> Result<bool, Fail> {
     for con in cons {
@@ -131,134 +121,111 @@ fn has_so_many(alloc: Global, row: &str) -> Result<bool, Fail> {
     let (text, number) = row.split_once(" # ").unwrap_or((row, ""));
     let (said, sets) = text.split_once(" : ").unwrap_or((text, ""));
     let domains = domains_of(alloc, sets)?;
-    let count = count_of_found(alloc, &domains, cons_of(alloc, said)?)?;
+    let count = count_of_found(alloc, &domains, cons_of(alloc, said, None)?)?;
     Ok(count == Some(number.parse::<usize>()?))
 }
 
-/// The first row of problems with another number of solutions.
-fn first_miscounted(alloc: Global, table: &str) -> Result<Option<&str>, Fail> {
-    for row in table.lines() {
-        if !has_so_many(alloc, row)? {
-            return Ok(Some(row));
-        }
-    }
-    Ok(None)
-}
-
-#[test]
-fn truths_are_as_said(rt: HostRuntime) -> Result<(), Fail> {
-    assert_eq!(rt; first_wrong(rt.alloc(), TRUTHS)?, None);
-    Ok(())
-}
-
-#[test]
-fn sums_are_as_said(rt: HostRuntime) -> Result<(), Fail> {
-    assert_eq!(rt; first_wrong(rt.alloc(), SUMS)?, None);
-    Ok(())
-}
-
-#[test]
-fn wide_sums_are_as_said(rt: HostRuntime) -> Result<(), Fail> {
-    assert_eq!(rt; first_wrong(rt.alloc(), WIDE_SUMS)?, None);
-    Ok(())
-}
-
-#[test]
-fn operations_are_as_said(rt: HostRuntime) -> Result<(), Fail> {
-    assert_eq!(rt; first_wrong(rt.alloc(), OPERATIONS)?, None);
-    Ok(())
-}
-
-#[test]
-fn choices_are_as_said(rt: HostRuntime) -> Result<(), Fail> {
-    assert_eq!(rt; first_wrong(rt.alloc(), CHOICES)?, None);
-    Ok(())
-}
-
-#[test]
-fn counts_are_as_said(rt: HostRuntime) -> Result<(), Fail> {
-    assert_eq!(rt; first_wrong(rt.alloc(), COUNTS)?, None);
-    Ok(())
-}
-
-#[test]
-fn tables_and_orders_are_as_said(rt: HostRuntime) -> Result<(), Fail> {
-    assert_eq!(rt; first_wrong(rt.alloc(), ORDERS)?, None);
-    Ok(())
-}
-
-#[test]
-fn problems_have_so_many_solutions(rt: HostRuntime) -> Result<(), Fail> {
-    assert_eq!(rt; first_miscounted(rt.alloc(), PROBLEMS)?, None);
-    Ok(())
-}
-
-#[test]
-fn a_row_with_a_wrong_number_is_found(rt: HostRuntime) -> Result<(), Fail> {
-    let table = "all 0 : 0..1 # 1\nall 0 : 0..1 # 2\nall 0 : 0..1 # 1";
-    assert_eq!(rt; first_wrong(rt.alloc(), table)?, Some("all 0 : 0..1 # 2"));
-    assert_eq!(rt;
-        first_miscounted(rt.alloc(), table)?,
-        Some("all 0 : 0..1 # 2")
-    );
-    Ok(())
-}
-
-/// How many variables and clauses the formula of a constraint has, on variables with these numbers.
-fn sizes_of(
-    alloc: Global,
-    said: &str,
-    truth: Option<u64>,
-    sets: &str,
-) -> Result<(u64, usize), Fail> {
-    let domains = domains_of(alloc, sets)?;
-    let con = con_of(alloc, said, truth)?;
-    let flat = flat_of(alloc, &domains, vec![in alloc; con]?)?;
-    sizes(alloc, &flat)
-}
-
-/// Whether the formula of the constraint of a row is as large as it says.
-fn is_so_large(alloc: Global, row: &str) -> Result<bool, Fail> {
+/// Whether the formula of the constraints of a row, which all have this variable of their truth, is as large as it says.
+fn is_so_large(alloc: Global, row: &str, truth: Option<u64>) -> Result<bool, Fail> {
     let (text, counts) = row.split_once(" # ").unwrap_or((row, ""));
     let (said, sets) = text.split_once(" : ").unwrap_or((text, ""));
     let (variables, clauses) = counts.split_once(" ").unwrap_or((counts, ""));
-    let found = sizes_of(alloc, said, None, sets)?;
+    let domains = domains_of(alloc, sets)?;
+    let flat = flat_of(alloc, &domains, cons_of(alloc, said, truth)?)?;
+    let found = sizes(alloc, &flat)?;
     Ok(found.0 == variables.parse::<u64>()? && found.1 == clauses.parse::<usize>()?)
 }
 
-/// The first row of a table with another size.
-fn first_of_other_size(alloc: Global, table: &str) -> Result<Option<&str>, Fail> {
+/// What a table says of its rows.
+#[derive(Clone, Copy)]
+enum Says {
+    /// How many lists meet a constraint.
+    Lists,
+    /// How many lists are found for some constraints.
+    Found,
+    /// How large a formula is.
+    Size,
+    /// The same where the first variable tells whether a constraint holds.
+    ToldSize,
+}
+
+/// The first row of a table that isn't right.
+fn first_wrong(alloc: Global, says: Says, table: &str) -> Result<Option<&str>, Fail> {
     for row in table.lines() {
-        if !is_so_large(alloc, row)? {
+        let is_so = match says {
+            Says::Lists => is_right(alloc, row)?,
+            Says::Found => has_so_many(alloc, row)?,
+            Says::Size => is_so_large(alloc, row, None)?,
+            Says::ToldSize => is_so_large(alloc, row, Some(0))?,
+        };
+        if !is_so {
             return Ok(Some(row));
         }
     }
     Ok(None)
 }
 
+/// The first row of some tables that isn't right.
+fn first_wrong_of(
+    alloc: Global,
+    tables: &[(Says, &'static str)],
+) -> Result<Option<&'static str>, Fail> {
+    for (says, table) in tables {
+        if let Some(row) = first_wrong(alloc, *says, *table)? {
+            return Ok(Some(row));
+        }
+    }
+    Ok(None)
+}
+
+/// Tables of truth values, lists and orders.
+const LISTS: [(Says, &str); 4] = [
+    (Says::Lists, TRUTHS),
+    (Says::Lists, CHOICES),
+    (Says::Lists, COUNTS),
+    (Says::Lists, ORDERS),
+];
+
+/// Tables of numbers.
+const NUMBERS: [(Says, &str); 3] = [
+    (Says::Lists, SUMS),
+    (Says::Lists, WIDE_SUMS),
+    (Says::Lists, OPERATIONS),
+];
+
+/// Tables of problems and sizes.
+const WHOLE: [(Says, &str); 3] = [
+    (Says::Found, PROBLEMS),
+    (Says::Size, SIZES),
+    (Says::ToldSize, TOLD_SIZES),
+];
+
 #[test]
-fn formulas_are_so_large(rt: HostRuntime) -> Result<(), Fail> {
-    assert_eq!(rt; first_of_other_size(rt.alloc(), SIZES)?, None);
+fn lists_are_as_said(rt: HostRuntime) -> Result<(), Fail> {
+    assert_eq!(rt; first_wrong_of(rt.alloc(), &LISTS)?, None);
     Ok(())
 }
 
 #[test]
-fn a_problem_without_variables_has_no_clause(rt: HostRuntime) -> Result<(), Fail> {
-    let flat = flat_of(rt.alloc(), &[], Vec::new(rt.alloc()))?;
-    assert_eq!(rt; sizes(rt.alloc(), &flat)?, (0, 0));
+fn numbers_are_as_said(rt: HostRuntime) -> Result<(), Fail> {
+    assert_eq!(rt; first_wrong_of(rt.alloc(), &NUMBERS)?, None);
     Ok(())
 }
 
-/// Each variable that is 0 or 1 has one literal, and that it is one of them is no clause.
 #[test]
-fn truths_are_tied_by_two_clauses(rt: HostRuntime) -> Result<(), Fail> {
-    for (said, truth) in [
-        ("same 0 1", None),
-        ("clause 1,1", Some(0)),
-        ("all 1", Some(0)),
-    ] {
-        let found = sizes_of(rt.alloc(), said, truth, "0..1 0..1")?;
-        assert_eq!(rt; found, (2, 2), "{said}");
+fn problems_and_sizes_are_as_said(rt: HostRuntime) -> Result<(), Fail> {
+    assert_eq!(rt; first_wrong_of(rt.alloc(), &WHOLE)?, None);
+    Ok(())
+}
+
+/// Rows of which the second has another number.
+const WRONG: &str = "all 0 : 0..1 # 1\nall 0 : 0..1 # 2\nall 0 : 0..1 # 1";
+
+#[test]
+fn a_row_with_a_wrong_number_is_found(rt: HostRuntime) -> Result<(), Fail> {
+    for says in [Says::Lists, Says::Found] {
+        let found = first_wrong(rt.alloc(), says, WRONG)?;
+        assert_eq!(rt; found, Some("all 0 : 0..1 # 2"));
     }
     Ok(())
 }

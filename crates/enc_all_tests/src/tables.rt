@@ -288,8 +288,14 @@ element 0 1,2 5/-7 3 : 0..3 0..1 3 -9..-7,-2,0,5,9 # 14
 element 0 1,2 1,1/3,2 3,4 : 0..2 0..1 2 2..4 0,2 # 12
 element 0 - 0/3 1 : -1..1 -1..4 # 6";
 
+/// The sizes of formulas where variable 0 tells whether the constraint holds. Each variable that is 0 or 1 has one literal, and that it is one of them is no clause.
+pub(crate) const TOLD_SIZES: &str = "clause 1,1 : 0..1 0..1 # 2 2
+all 1 : 0..1 0..1 # 2 2";
+
 /// Constraints, the numbers that their variables may have, and how many variables and clauses their formulas have.
-pub(crate) const SIZES: &str = "element 0 1 1 2 : 1..40 1..40 1..40 # 231 536
+pub(crate) const SIZES: &str = "none :  # 0 0
+same 0 1 : 0..1 0..1 # 2 2
+element 0 1 1 2 : 1..40 1..40 1..40 # 231 536
 element 0 1 20 2 : 1..40 1..40 1..40 # 231 576
 linear 1,0,1,1,1,2 = 30 : 0..100 0..100 0..100 # 597 2181
 linear 1,0,1,1,1,2 <= 1 : 0..100 0..100 0..100 # 597 1194
