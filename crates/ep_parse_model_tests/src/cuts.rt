@@ -6,11 +6,11 @@ use std::alloc::Global;
 use std::test::Fail;
 
 /// A token that no text has behind its first line.
-const FOREIGN: &[u8] = b" ESSENCE'";
+const FOREIGN: &str = " ESSENCE'";
 
-/// The column behind a row of so many bytes with something in front of it.
-fn column_behind(length: usize, front: &[u8]) -> u64 {
-    match u64::try_from(length.saturating_sub(front.len())) {
+/// The column behind a row of so many bytes, of which so many stand in front of it.
+fn column_behind(length: usize, front: usize) -> u64 {
+    match u64::try_from(length.saturating_sub(front)) {
         Ok(column) => column.saturating_add(1),
         Err(_) => 0,
     }
@@ -24,32 +24,29 @@ fn is_cut(said: (&'static str, Place), line: u64, column: u64, may_end: bool) ->
     said.0 == "F2" && said.1 == Place { line, column }
 }
 
+/// Whether a model is refused at its end, or is whole where it may be, and a foreign token behind it is refused at its place.
+fn is_cut_there(alloc: Global, text: &str, may_end: bool) -> Result<bool, Fail> {
+    let column = column_behind(text.len(), LANGUAGE.len());
+    if !is_cut(of_model(alloc, text.as_bytes()), 2, column, may_end) {
+        return Ok(false);
+    }
+    let longer = format!(in alloc; "{text}{FOREIGN}")?;
+    let foreign = of_model(alloc, longer.as_bytes());
+    Ok(is_cut(foreign, 2, column.saturating_add(1), false))
+}
+
 /// Whether a model whose row is cut behind each word is refused at its end, except behind a word with the
 /// mark `@`, where it is whole; and a foreign token behind each word is refused at its place.
-fn is_right(alloc: Global, front: &[u8], line: u64, row: &str) -> Result<bool, Fail> {
-    let mut text = Vec::from_slice(alloc, front)?;
-    for word in row.as_bytes().split(|byte| *byte == b' ') {
-        if text.len() > front.len() {
-            text.push(b' ')?;
-        }
-        let mut may_end = false;
-        for byte in word {
-            if *byte == b'@' {
-                may_end = true;
-            } else {
-                text.push(*byte)?;
-            }
-        }
-        let column = column_behind(text.len(), front);
-        if !is_cut(of_model(alloc, &text), line, column, may_end) {
+fn is_right(alloc: Global, row: &str) -> Result<bool, Fail> {
+    let mut text = String::from_str(alloc, LANGUAGE)?;
+    let mut blank = "";
+    for word in row.split(' ') {
+        text.push_str(blank)?;
+        text.push_str(word.strip_suffix("@").unwrap_or(word))?;
+        if !is_cut_there(alloc, text.as_str(), word.ends_with("@"))? {
             return Ok(false);
         }
-        let mut longer = Vec::from_slice(alloc, &text)?;
-        longer.extend_from_slice(FOREIGN)?;
-        let foreign = of_model(alloc, &longer);
-        if !is_cut(foreign, line, column.saturating_add(1), false) {
-            return Ok(false);
-        }
+        blank = " ";
     }
     Ok(true)
 }
@@ -57,7 +54,7 @@ fn is_right(alloc: Global, front: &[u8], line: u64, row: &str) -> Result<bool, F
 /// The first row of a table that isn't right.
 fn first_uncut(alloc: Global, table: &str) -> Result<Option<&str>, Fail> {
     for row in table.lines() {
-        if !is_right(alloc, LANGUAGE, 2, row)? {
+        if !is_right(alloc, row)? {
             return Ok(Some(row));
         }
     }
@@ -86,12 +83,6 @@ branching on [ ]@
 branching on [ x , y ]@
 heuristic static@ heuristic x@
 given n : int@ ( 1 .. )@ letting m be n@ find x : int@ ( .. m )@ such that@ x@ = m@ minimising x@";
-
-#[test]
-fn statements_are_cut_behind_each_token(rt: HostRuntime) -> Result<(), Fail> {
-    assert_eq!(rt; first_uncut(rt.alloc(), STATEMENTS)?, None);
-    Ok(())
-}
 
 /// Expressions. A mark stands behind each word with which they may end.
 const EXPRESSIONS: &str = "such that@ 1@ + 2@ - 3@ * 4@ / 5@ % 6@ ** 7@
@@ -124,39 +115,35 @@ such that@ true@ = false@ ,@ 0@
 such that@ [ toInt ( a [ 1 ] ) | i : ( D ) ]@
 such that@ sum ( [ x [ i ] | i : int ( 1 .. n ) , i % 2 = 0 ] )@ <= max ( y )@";
 
-#[test]
-fn expressions_are_cut_behind_each_token(rt: HostRuntime) -> Result<(), Fail> {
-    assert_eq!(rt; first_uncut(rt.alloc(), EXPRESSIONS)?, None);
-    Ok(())
+/// First lines.
+const FIRST_LINES: &str = "language
+language ESSENCE'
+language ESSENCE' 1
+language ESSENCE' 1.
+language ESSENCE' 1.0@";
+
+/// Whether a first line is refused at its end as a model and as parameters, or is whole where it has a mark.
+fn is_first_line(alloc: Global, row: &str) -> bool {
+    let text = row.strip_suffix("@").unwrap_or(row);
+    let column = column_behind(text.len(), 0);
+    let may_end = row.ends_with("@");
+    is_cut(of_model(alloc, text.as_bytes()), 1, column, may_end)
+        && is_cut(of_params(alloc, text.as_bytes()), 1, column, may_end)
 }
 
+/// A row with a wrong mark is found, too.
 #[test]
-fn the_first_line_is_cut_behind_each_token(rt: HostRuntime) -> Result<(), Fail> {
+fn texts_are_cut_behind_each_token(rt: HostRuntime) -> Result<(), Fail> {
     let alloc = rt.alloc();
-    assert_eq!(rt; of_params(alloc, b"").0, "fine");
-    for (text, whole) in [
-        ("language", false),
-        ("language ESSENCE'", false),
-        ("language ESSENCE' 1", false),
-        ("language ESSENCE' 1.", false),
-        ("language ESSENCE' 1.0", true),
-    ] {
-        let column = column_behind(text.len(), b"");
-        let model = of_model(alloc, text.as_bytes());
-        let params = of_params(alloc, text.as_bytes());
-        assert!(rt; is_cut(model, 1, column, whole), "{text}");
-        assert!(rt; is_cut(params, 1, column, whole), "{text}");
+    for table in [STATEMENTS, EXPRESSIONS] {
+        assert_eq!(rt; first_uncut(alloc, table)?, None);
     }
-    Ok(())
-}
-
-#[test]
-fn a_row_with_a_wrong_mark_is_found(rt: HostRuntime) -> Result<(), Fail> {
-    let table = "minimising x@\nsuch that@ x\nminimising x@";
-    assert_eq!(rt; first_uncut(rt.alloc(), table)?, Some("such that@ x"));
-    assert_eq!(rt;
-        first_uncut(rt.alloc(), "find x : int@ (@ 1 )@")?,
-        Some("find x : int@ (@ 1 )@")
-    );
+    for row in FIRST_LINES.lines() {
+        assert!(rt; is_first_line(alloc, row), "{row}");
+    }
+    assert_eq!(rt; of_params(alloc, b"").0, "fine");
+    for row in ["such that@ x", "find x : int@ (@ 1 )@"] {
+        assert_eq!(rt; first_uncut(alloc, row)?, Some(row));
+    }
     Ok(())
 }

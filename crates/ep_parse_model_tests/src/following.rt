@@ -10,26 +10,26 @@ const TOKENS: &str =
     "language ESSENCE' given letting where find such that minimising minimizing maximising maximizing branching on heuristic be domain matrix indexed by of int bool union intersect in toInt toSet flatten forAll exists sum product and or min max allDiff gcc atleast atmost table factorial true false ( ) [ ] , ; : . .. | + - * ** / % ! = != < <= > >= /\\ \\/ -> <-> <lex <=lex >lex >=lex x y1 0 1 7";
 
 /// What a word of a row stands for: some tokens, or itself.
-fn meant(word: &[u8]) -> &[u8] {
+fn meant(word: &str) -> &str {
     match word {
-        b"NAME" => b"x y1",
-        b"EXPR" =>
-            b"toInt flatten forAll exists sum product and or min max allDiff gcc atleast atmost table factorial true false ( [ | - ! x y1 0 1 7",
-        b"DOMAIN" => b"int bool ( x y1",
-        b"STAT" =>
-            b"given letting where find such branching heuristic minimising minimizing maximising maximizing",
-        b"OTHER" => b"given letting where find such branching heuristic",
-        b"SET" => b"union intersect -",
-        b"LOGIC" => b"/\\ \\/ -> <->",
-        b"SUM" => b"+ - * ** / % [",
-        b"COMPARE" => b"= != < <= > >= in <lex <=lex >lex >=lex",
+        "NAME" => "x y1",
+        "EXPR" =>
+            "toInt flatten forAll exists sum product and or min max allDiff gcc atleast atmost table factorial true false ( [ | - ! x y1 0 1 7",
+        "DOMAIN" => "int bool ( x y1",
+        "STAT" =>
+            "given letting where find such branching heuristic minimising minimizing maximising maximizing",
+        "OTHER" => "given letting where find such branching heuristic",
+        "SET" => "union intersect -",
+        "LOGIC" => "/\\ \\/ -> <->",
+        "SUM" => "+ - * ** / % [",
+        "COMPARE" => "= != < <= > >= in <lex <=lex >lex >=lex",
         _ => word,
     }
 }
 
 /// Whether a token is among some that are parted by blanks.
-fn is_among(words: &[u8], token: &[u8]) -> bool {
-    for word in words.split(|byte| *byte == b' ') {
+fn is_among(words: &str, token: &str) -> bool {
+    for word in words.split(' ') {
         if word == token {
             return true;
         }
@@ -38,8 +38,8 @@ fn is_among(words: &[u8], token: &[u8]) -> bool {
 }
 
 /// Whether a row's words allow a token.
-fn is_allowed(words: &[u8], token: &[u8]) -> bool {
-    for word in words.split(|byte| *byte == b' ') {
+fn is_allowed(words: &str, token: &str) -> bool {
+    for word in words.split(' ') {
         if is_among(meant(word), token) {
             return true;
         }
@@ -67,41 +67,42 @@ enum Reader {
     Params,
 }
 
-/// The first token that is refused behind a beginning and allowed by words, or neither.
-fn first_other(
+/// What is said of a text that a token ends behind a beginning, and in which line it stands.
+fn said_behind(
     alloc: Global,
     reader: Reader,
-    beginning: &[u8],
-    words: &[u8],
-) -> Result<Option<&'static [u8]>, Fail> {
-    for token in TOKENS.as_bytes().split(|byte| *byte == b' ') {
-        let front: &[u8] = match reader {
-            Reader::Behind => LANGUAGE,
-            _ => b"",
-        };
-        let mut text = Vec::from_slice(alloc, front)?;
-        text.extend_from_slice(beginning)?;
-        text.extend_from_slice(token)?;
-        let (said, line) = match reader {
-            Reader::Behind => (of_model(alloc, &text), 2),
-            Reader::Whole => (of_model(alloc, &text), 1),
-            Reader::Params => (of_params(alloc, &text), 1),
-        };
+    beginning: &str,
+    token: &str,
+) -> Result<((&'static str, Place), u64), Fail> {
+    let front = match reader {
+        Reader::Behind => LANGUAGE,
+        _ => "",
+    };
+    let text = format!(in alloc; "{front}{beginning}{token}")?;
+    Ok(match reader {
+        Reader::Behind => (of_model(alloc, text.as_bytes()), 2),
+        Reader::Whole => (of_model(alloc, text.as_bytes()), 1),
+        Reader::Params => (of_params(alloc, text.as_bytes()), 1),
+    })
+}
+
+/// Whether just those tokens are refused behind a beginning that words don't allow.
+fn goes_on(alloc: Global, reader: Reader, beginning: &str, words: &str) -> Result<bool, Fail> {
+    for token in TOKENS.split(' ') {
+        let (said, line) = said_behind(alloc, reader, beginning, token)?;
         if is_refused(said, line, beginning.len()) == is_allowed(words, token) {
-            return Ok(Some(token));
+            return Ok(false);
         }
     }
-    Ok(None)
+    Ok(true)
 }
 
 /// The first row of a table of which some token is refused and allowed, or neither. Behind the `#` of a row
 /// stand the tokens that may follow the beginning in front of it.
 fn first_row(alloc: Global, reader: Reader, table: &str) -> Result<Option<&str>, Fail> {
     for row in table.lines() {
-        let Some((beginning, words)) = row.split_once('#') else {
-            return Ok(Some(row));
-        };
-        if first_other(alloc, reader, beginning.as_bytes(), words.as_bytes())?.is_some() {
+        let (beginning, words) = row.split_once('#').unwrap_or((row, ""));
+        if !goes_on(alloc, reader, beginning, words)? {
             return Ok(Some(row));
         }
     }
@@ -153,12 +154,6 @@ branching on [ ] # STAT
 heuristic # NAME
 heuristic x # STAT";
 
-#[test]
-fn statements_go_on_with_these_tokens(rt: HostRuntime) -> Result<(), Fail> {
-    assert_eq!(rt; first_row(rt.alloc(), Reader::Behind, STATEMENTS)?, None);
-    Ok(())
-}
-
 /// Beginnings of domains.
 const DOMAINS: &str = "find x : int # ( , SET STAT
 find x : int ( # EXPR ..
@@ -188,12 +183,6 @@ find x : matrix indexed by [ y ] # of
 find x : matrix indexed by [ y ] of # DOMAIN matrix
 find x : matrix indexed by [ y ] of z # , SET STAT
 find x : matrix indexed by [ y ] of matrix indexed by [ z ] of bool # , SET STAT";
-
-#[test]
-fn domains_go_on_with_these_tokens(rt: HostRuntime) -> Result<(), Fail> {
-    assert_eq!(rt; first_row(rt.alloc(), Reader::Behind, DOMAINS)?, None);
-    Ok(())
-}
 
 /// Beginnings of operators and quantifiers.
 const OPERATORS: &str = "such that x # , SUM COMPARE LOGIC STAT
@@ -250,12 +239,6 @@ such that x /\\ forAll x : y . z # , SUM COMPARE LOGIC STAT
 such that ( forAll x : y . z = w ) # , SUM COMPARE LOGIC STAT
 such that 1 = ( sum x : y . z ) # , SUM LOGIC STAT";
 
-#[test]
-fn operators_go_on_with_these_tokens(rt: HostRuntime) -> Result<(), Fail> {
-    assert_eq!(rt; first_row(rt.alloc(), Reader::Behind, OPERATORS)?, None);
-    Ok(())
-}
-
 /// Beginnings of operands.
 const OPERANDS: &str = "such that ( # EXPR
 such that ( x # ) SUM COMPARE LOGIC
@@ -310,12 +293,6 @@ such that atmost ( x , y , # EXPR
 such that gcc ( x , y , z # ) SUM COMPARE LOGIC
 such that gcc ( x , y , z ) # , SUM COMPARE LOGIC STAT";
 
-#[test]
-fn operands_go_on_with_these_tokens(rt: HostRuntime) -> Result<(), Fail> {
-    assert_eq!(rt; first_row(rt.alloc(), Reader::Behind, OPERANDS)?, None);
-    Ok(())
-}
-
 /// Beginnings of comprehensions, in which names may yet become a generator's or conditions.
 const COMPREHENSIONS: &str = "such that [ x | # NAME
 such that [ x | i # , :
@@ -348,15 +325,6 @@ such that [ x | i : y , z , w ; v # ] SET
 such that [ x | i : y ] # , SUM COMPARE LOGIC STAT
 such that [ x | i : y , z ] # , SUM COMPARE LOGIC STAT";
 
-#[test]
-fn comprehensions_go_on_with_these_tokens(rt: HostRuntime) -> Result<(), Fail> {
-    assert_eq!(rt;
-        first_row(rt.alloc(), Reader::Behind, COMPREHENSIONS)?,
-        None
-    );
-    Ok(())
-}
-
 /// Beginnings of models.
 const MODELS: &str = "# language
 language # ESSENCE'
@@ -381,26 +349,37 @@ letting x be domain # DOMAIN matrix
 letting x be domain y # SET letting
 letting x be domain y letting # NAME";
 
+/// Tables of whole texts, statements and domains, with how their rows are read.
+const STATEMENT_TABLES: [(Reader, &str); 4] = [
+    (Reader::Behind, STATEMENTS),
+    (Reader::Behind, DOMAINS),
+    (Reader::Whole, MODELS),
+    (Reader::Params, PARAMS),
+];
+
+/// Also, a row with fewer or with more tokens is found.
 #[test]
-fn whole_texts_go_on_with_these_tokens(rt: HostRuntime) -> Result<(), Fail> {
+fn statements_and_domains_go_on_with_these_tokens(rt: HostRuntime) -> Result<(), Fail> {
     let alloc = rt.alloc();
-    assert_eq!(rt; first_row(alloc, Reader::Whole, MODELS)?, None);
-    assert_eq!(rt; first_row(alloc, Reader::Params, PARAMS)?, None);
+    for (reader, table) in STATEMENT_TABLES {
+        assert_eq!(rt; first_row(alloc, reader, table)?, None);
+    }
+    for row in ["given x # ,", "given x # , : ="] {
+        assert_eq!(rt; first_row(alloc, Reader::Behind, row)?, Some(row));
+    }
     Ok(())
 }
 
 #[test]
-fn a_row_with_other_tokens_is_found(rt: HostRuntime) -> Result<(), Fail> {
-    let alloc = rt.alloc();
-    let fewer = "given x # , :\ngiven x # ,";
-    let more = "given x # , :\ngiven x # , : =";
-    assert_eq!(rt;
-        first_row(alloc, Reader::Behind, fewer)?,
-        Some("given x # ,")
-    );
-    assert_eq!(rt;
-        first_row(alloc, Reader::Behind, more)?,
-        Some("given x # , : =")
-    );
+fn operators_go_on_with_these_tokens(rt: HostRuntime) -> Result<(), Fail> {
+    assert_eq!(rt; first_row(rt.alloc(), Reader::Behind, OPERATORS)?, None);
+    Ok(())
+}
+
+#[test]
+fn operands_and_comprehensions_go_on_with_these_tokens(rt: HostRuntime) -> Result<(), Fail> {
+    for table in [OPERANDS, COMPREHENSIONS] {
+        assert_eq!(rt; first_row(rt.alloc(), Reader::Behind, table)?, None);
+    }
     Ok(())
 }

@@ -5,8 +5,6 @@
 mod cuts;
 #[cfg(test)]
 mod following;
-#[cfg(test)]
-mod heights;
 pub mod marks;
 #[cfg(test)]
 mod printed;
@@ -14,6 +12,8 @@ mod printed;
 mod reaches;
 #[cfg(test)]
 mod refusals;
+#[cfg(test)]
+mod rows;
 #[cfg(test)]
 mod spelled;
 #[cfg(test)]

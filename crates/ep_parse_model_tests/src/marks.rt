@@ -1,4 +1,4 @@
-//! Texts with a mark where a fault stands. The mark `@` is no part of the text.
+//! Texts with a mark where a fault stands, and texts of pieces. The mark `@` is no part of the text.
 
 use ep_base::Place;
 use std::alloc::{AllocError, Global};
@@ -53,4 +53,30 @@ pub fn without_mark(
         place,
         before,
     })
+}
+
+/// Adds a piece so many times. A `^` in it ends a line.
+fn add(text: &mut Vec<u8>, piece: &str, times: u64) -> Result<(), AllocError> {
+    for _ in 0..times {
+        for byte in piece.as_bytes() {
+            text.push(if *byte == b'^' { b'\n' } else { *byte })?;
+        }
+    }
+    Ok(())
+}
+
+/// The text of a row: pieces that are parted by `~`, each behind the number of times that it stands there.
+pub fn of_pieces(alloc: Global, row: &str) -> Result<Vec<u8>, AllocError> {
+    let mut text = Vec::new(alloc);
+    let mut times = 1;
+    let mut is_piece = false;
+    for part in row.split('~') {
+        if is_piece {
+            add(&mut text, part, times)?;
+        } else {
+            times = part.parse::<u64>().unwrap_or(0);
+        }
+        is_piece = !is_piece;
+    }
+    Ok(text)
 }

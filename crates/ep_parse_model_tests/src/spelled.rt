@@ -27,16 +27,15 @@ fn tree_of(
 /// stands the beginning of a statement, and the tree lies between the two others.
 fn first_other_tree<'a>(
     alloc: Global,
+    shows_places: bool,
     front: &str,
     opens: &str,
     closes: &str,
     table: &'a str,
 ) -> Result<Option<&'a str>, Fail> {
     for row in table.lines() {
-        let Some((text, tree)) = row.split_once('#') else {
-            return Ok(Some(row));
-        };
-        let read = tree_of(alloc, false, front, text)?;
+        let (text, tree) = row.split_once('#').unwrap_or((row, ""));
+        let read = tree_of(alloc, shows_places, front, text)?;
         let mut wanted = Printed::new(alloc, false);
         wanted.put(opens);
         wanted.put(tree);
@@ -78,13 +77,6 @@ atmost(x, y, z) # (atmost x y z)
 min(1 + 2, -x) # (min (+ +1 +2) (neg x))
 sum([x, y]) # (sum [ x y])
 sum((x)) # (sum {x})";
-
-#[test]
-fn operands_have_their_trees(rt: HostRuntime) -> Result<(), Fail> {
-    let found = first_other_tree(rt.alloc(), "such that ", " (such", ")", OPERANDS)?;
-    assert_eq!(rt; found, None);
-    Ok(())
-}
 
 /// Lists, comprehensions and reads.
 const LISTS: &str = "[] # []
@@ -132,13 +124,6 @@ m[m[1]] # (read m (read m 1))
 true[..] # (read true ..)
 flatten(x)[1] # (read (flatten x) 1)
 table(x, y)[1] # (read (table x y) 1)";
-
-#[test]
-fn lists_have_their_trees(rt: HostRuntime) -> Result<(), Fail> {
-    let found = first_other_tree(rt.alloc(), "such that ", " (such", ")", LISTS)?;
-    assert_eq!(rt; found, None);
-    Ok(())
-}
 
 /// Operators, from the tightest to the loosest.
 const OPERATORS: &str = "!x # (! x)
@@ -194,13 +179,6 @@ x in toSet(m) # (inSet x m)
 x + 1 in toSet([1, 2]) # (inSet (+ +x +1) [ 1 2])
 !x in D # (in (! x) D)";
 
-#[test]
-fn operators_have_their_trees(rt: HostRuntime) -> Result<(), Fail> {
-    let found = first_other_tree(rt.alloc(), "such that ", " (such", ")", OPERATORS)?;
-    assert_eq!(rt; found, None);
-    Ok(())
-}
-
 /// Connectives and quantifiers.
 const CONNECTIVES: &str = "x /\\ y # (/\\ x y)
 x /\\ y /\\ z # (/\\ x y z)
@@ -249,13 +227,6 @@ x, y, # x y
 (forAll i : D . x), y # {(forAll i : D . x)} y
 forAll i : D . x, y # (forAll i : D . x) y";
 
-#[test]
-fn connectives_have_their_trees(rt: HostRuntime) -> Result<(), Fail> {
-    let found = first_other_tree(rt.alloc(), "such that ", " (such", ")", CONNECTIVES)?;
-    assert_eq!(rt; found, None);
-    Ok(())
-}
-
 /// Domains.
 const DOMAINS: &str = "bool # bool
 int # int
@@ -290,13 +261,6 @@ matrix indexed by [D] of E union F # (matrix D of (union E F))
 matrix indexed by [D] of (E) # (matrix D of { E})
 matrix indexed by [D] of matrix indexed by [E] of F # (matrix D E of F)
 matrix indexed by [D, E] of matrix indexed by [F] of matrix indexed by [G] of int # (matrix D E F G of int)";
-
-#[test]
-fn domains_have_their_trees(rt: HostRuntime) -> Result<(), Fail> {
-    let found = first_other_tree(rt.alloc(), "find x : ", " (find [ x :", "])", DOMAINS)?;
-    assert_eq!(rt; found, None);
-    Ok(())
-}
 
 /// Statements.
 const STATEMENTS: &str = "given n : D # (given [ n : D])
@@ -338,13 +302,6 @@ given n : int find x : int(1..n) # (given [ n : int]) (find [ x : int( 1..n)])
 minimising x branching on [x] heuristic a # (minimising x) (branching x) (heuristic a)
 such that x maximising y such that z # (such x) (maximising y) (such z)";
 
-#[test]
-fn statements_have_their_trees(rt: HostRuntime) -> Result<(), Fail> {
-    let found = first_other_tree(rt.alloc(), "", "", "", STATEMENTS)?;
-    assert_eq!(rt; found, None);
-    Ok(())
-}
-
 /// Texts whose trees have the column of each node's first token in front of it.
 const PLACES: &str = "such that x + 1, -(y) # 1'(such 11'(+ +11'x +15'1) 18'(neg 19'{20'y}))
 such that x ** 2 * 3 = m[i, 4] # 1'(such 11'(= 11'(* 11'(** 11'x 16'2) 20'3) 24'(read 24'm 26'i 29'4)))
@@ -361,23 +318,27 @@ given n : matrix indexed by [D, E] of F # 1'(given [ 7'n : 11'(matrix 30'D 33'E 
 letting c : D be 1 where x # 1'(letting 9'c : 13'D = 18'1) 20'(where 26'x)
 letting D be domain E branching on [x, y] # 1'(letting 9'D domain 21'E) 23'(branching 37'x 40'y)";
 
-#[test]
-fn nodes_have_the_places_of_their_first_tokens(rt: HostRuntime) -> Result<(), Fail> {
-    let alloc = rt.alloc();
-    for row in PLACES.lines() {
-        let (text, tree) = row.split_once('#').unwrap_or(("", row));
-        let read = tree_of(alloc, true, "", text)?;
-        let mut wanted = Printed::new(alloc, false);
-        wanted.put(tree);
-        assert!(rt; read.is(&wanted), "{row}");
-    }
-    Ok(())
-}
+/// Whether columns are shown, what stands in front of each row of a table, what stands around its tree, and the table.
+const TABLES: [(bool, &str, &str, &str, &str); 7] = [
+    (false, "such that ", " (such", ")", OPERANDS),
+    (false, "such that ", " (such", ")", LISTS),
+    (false, "such that ", " (such", ")", OPERATORS),
+    (false, "such that ", " (such", ")", CONNECTIVES),
+    (false, "find x : ", " (find [ x :", "])", DOMAINS),
+    (false, "", "", "", STATEMENTS),
+    (true, "", "", "", PLACES),
+];
 
+/// A row with another tree is found, too.
 #[test]
-fn a_row_with_another_tree_is_found(rt: HostRuntime) -> Result<(), Fail> {
+fn texts_have_their_trees(rt: HostRuntime) -> Result<(), Fail> {
+    let alloc = rt.alloc();
+    for (shows_places, front, opens, closes, table) in TABLES {
+        let found = first_other_tree(alloc, shows_places, front, opens, closes, table)?;
+        assert_eq!(rt; found, None);
+    }
     let table = "x # x\nx + 1 # (+ +x +1)\n(x) # x\nx # x";
-    let found = first_other_tree(rt.alloc(), "such that ", " (such", ")", table)?;
+    let found = first_other_tree(alloc, false, "such that ", " (such", ")", table)?;
     assert_eq!(rt; found, Some("(x) # x"));
     Ok(())
 }
