@@ -1,10 +1,7 @@
 //! Where a decision variable's name may stand.
 
-use crate::rows::first_wrong;
-use std::test::Fail;
-
 /// Texts with decision variables where they may stand.
-const ALLOWED: &str = "$ Clauses, objectives and orders
+pub(crate) const ALLOWED: &str = "$ Clauses, objectives and orders
 such that x = 1, b
 minimising x + y
 maximising sum(m)
@@ -52,14 +49,8 @@ where forAll x : D . x > 0
 letting k be sum x : D . x
 find k : int(1..sum([x | x : D]))";
 
-#[test]
-fn decision_variables_stand_here(rt: HostRuntime) -> Result<(), Fail> {
-    assert_eq!(rt; first_wrong(rt.alloc(), "fine", ALLOWED)?, None);
-    Ok(())
-}
-
 /// Texts with decision variables where none may stand.
-const FORBIDDEN: &str = "$ A domain
+pub(crate) const FORBIDDEN: &str = "$ A domain
 find k : int(1..@x)
 find k : int(@x)
 find k : D union int(@x..3)
@@ -124,9 +115,3 @@ $ A name that is hidden no more
 such that (forAll x : D . 2 ** x > 1) /\\ 2 ** @x = 4
 such that sum([1 | x : D, x > 1]) = 2 ** @x
 such that (forAll i : int(1..factorial(n)) . i < x) /\\ factorial(@x) = 1";
-
-#[test]
-fn decision_variables_stand_nowhere_else(rt: HostRuntime) -> Result<(), Fail> {
-    assert_eq!(rt; first_wrong(rt.alloc(), "F6", FORBIDDEN)?, None);
-    Ok(())
-}

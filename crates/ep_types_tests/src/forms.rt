@@ -1,10 +1,7 @@
 //! What each form takes, and what it gives.
 
-use crate::rows::first_wrong;
-use std::test::Fail;
-
 /// Texts that are well typed.
-const WELL_TYPED: &str = "$ Numbers, truth values and names
+pub(crate) const WELL_TYPED: &str = "$ Numbers, truth values and names
 such that 1 = 1
 such that true
 such that false
@@ -139,14 +136,8 @@ minimising x
 maximising b
 minimising sum(m)";
 
-#[test]
-fn each_form_takes_parts_of_its_types(rt: HostRuntime) -> Result<(), Fail> {
-    assert_eq!(rt; first_wrong(rt.alloc(), "fine", WELL_TYPED)?, None);
-    Ok(())
-}
-
 /// Texts in which a node is ill typed.
-const ILL_TYPED: &str = "$ Numbers, truth values and names
+pub(crate) const ILL_TYPED: &str = "$ Numbers, truth values and names
 such that @1
 such that true, @x, b
 such that b, @n
@@ -313,9 +304,3 @@ $ Clauses and objectives
 minimising @m
 maximising @[]
 minimising @r";
-
-#[test]
-fn no_form_takes_parts_of_other_types(rt: HostRuntime) -> Result<(), Fail> {
-    assert_eq!(rt; first_wrong(rt.alloc(), "F5", ILL_TYPED)?, None);
-    Ok(())
-}

@@ -14,4 +14,6 @@ mod rows;
 #[cfg(test)]
 mod sizes;
 #[cfg(test)]
+mod tables;
+#[cfg(test)]
 mod users;

@@ -1,10 +1,7 @@
 //! What names stand for, and where.
 
-use crate::rows::{first_other, first_wrong, of_params, of_whole};
-use std::test::Fail;
-
 /// Texts that are well typed since a name or a domain has its type.
-const TYPES: &str = "find k : bool such that k
+pub(crate) const TYPES: &str = "find k : bool such that k
 find k : E such that k
 find k : bool union E such that k
 find k : (bool) such that k
@@ -31,14 +28,8 @@ given k : E union E such that k
 letting K be domain D - int(2) find k : K such that k = 1
 letting K be domain matrix indexed by [bool, D] of E find k : K such that and(k[1])";
 
-#[test]
-fn domains_and_names_have_their_types(rt: HostRuntime) -> Result<(), Fail> {
-    assert_eq!(rt; first_wrong(rt.alloc(), "fine", TYPES)?, None);
-    Ok(())
-}
-
 /// Texts that are ill typed since it has no other one.
-const OTHER_TYPES: &str = "find k : int(1..2) such that @k
+pub(crate) const OTHER_TYPES: &str = "find k : int(1..2) such that @k
 find k : bool union D such that @k
 find k : D intersect bool such that @k
 find k : matrix indexed by [D] of D such that @and(k)
@@ -65,14 +56,8 @@ find k : matrix indexed by [D] of matrix indexed by [D] of @D union M
 letting K be domain @matrix indexed by [(M)] of D
 letting k : @int([]) be 1";
 
-#[test]
-fn domains_and_names_have_no_other_types(rt: HostRuntime) -> Result<(), Fail> {
-    assert_eq!(rt; first_wrong(rt.alloc(), "F5", OTHER_TYPES)?, None);
-    Ok(())
-}
-
 /// Texts whose names are known where they stand.
-const KNOWN: &str = "given k : int(1..3), l : int(1..k)
+pub(crate) const KNOWN: &str = "given k : int(1..3), l : int(1..k)
 letting k be 3 given l : int(1..k) find o : int(l..k)
 letting k : int(1..3) be 2 where k = 2
 letting K be domain int(1..3) find k, l : K
@@ -94,14 +79,8 @@ such that [m | m : D] <lex m
 such that sum([b | x, b : D, b > x]) = 1 -> b
 minimising sum x : D . x ** x";
 
-#[test]
-fn names_are_known_behind_their_declarations(rt: HostRuntime) -> Result<(), Fail> {
-    assert_eq!(rt; first_wrong(rt.alloc(), "fine", KNOWN)?, None);
-    Ok(())
-}
-
 /// Texts with a name that is declared nowhere, later, or in a scope that has ended.
-const UNKNOWN: &str = "such that @z = 1
+pub(crate) const UNKNOWN: &str = "such that @z = 1
 such that x = @z
 such that x in @Z
 find k : @Z
@@ -128,14 +107,8 @@ such that sum([i | i : D, @j = i]) = 1
 minimising @z
 where @z = 1";
 
-#[test]
-fn other_names_are_unknown(rt: HostRuntime) -> Result<(), Fail> {
-    assert_eq!(rt; first_wrong(rt.alloc(), "F3", UNKNOWN)?, None);
-    Ok(())
-}
-
 /// Texts that declare a name again.
-const DECLARED_AGAIN: &str = "find @x : D
+pub(crate) const DECLARED_AGAIN: &str = "find @x : D
 find k, @k : D
 find k : D, l, @k : D
 given k : D find @k : bool
@@ -146,14 +119,8 @@ find @M : bool
 given @x : D
 letting @x : D be 1";
 
-#[test]
-fn names_are_declared_once(rt: HostRuntime) -> Result<(), Fail> {
-    assert_eq!(rt; first_wrong(rt.alloc(), "F4", DECLARED_AGAIN)?, None);
-    Ok(())
-}
-
 /// Texts with a domain's name as an expression, or another name as a domain.
-const OF_THE_WRONG_SORT: &str = "such that @D = 1
+pub(crate) const OF_THE_WRONG_SORT: &str = "such that @D = 1
 such that x = @M
 such that allDiff(@M)
 such that x in @n
@@ -168,14 +135,8 @@ minimising @D
 letting K be domain @n
 letting k be @D";
 
-#[test]
-fn domains_are_no_values_and_values_no_domains(rt: HostRuntime) -> Result<(), Fail> {
-    assert_eq!(rt; first_wrong(rt.alloc(), "F5", OF_THE_WRONG_SORT)?, None);
-    Ok(())
-}
-
 /// Texts with two faults, behind the one that is named.
-const TWO_FAULTS: &str = "F3 such that @z = k
+pub(crate) const TWO_FAULTS: &str = "F3 such that @z = k
 F3 such that [1] < @z
 F3 such that m[@z, k] = 1
 F3 such that @z[k] = 1
@@ -218,58 +179,24 @@ F6 such that allDiff([w, w][@x, [1], ..])
 F5 such that allDiff(@q[[1], ..])
 F5 such that allDiff(@m[x, [1], ..])";
 
-#[test]
-fn of_two_faults_the_first_is_named(rt: HostRuntime) -> Result<(), Fail> {
-    assert_eq!(rt; first_other(rt.alloc(), TWO_FAULTS)?, None);
-    Ok(())
-}
+/// Texts behind the first line alone.
+pub(crate) const ALONE: &str = "F3 such that @y = 1
+F4 find x : bool find @x : bool
+F5 find x : matrix indexed by [int(1..2)] of int(0..9) such that @sum i : int(1..2) . x[i] = 5
+F6 find x : int(1..3) find y : int(1..@x)
+F7 find x : @int";
 
-#[test]
-fn texts_alone_have_their_faults(rt: HostRuntime) -> Result<(), Fail> {
-    let rows: [(&str, &[u8]); 5] = [
-        ("F3", b"such that @y = 1"),
-        ("F4", b"find x : bool\nfind @x : bool"),
-        (
-            "F5",
-            b"find x : matrix indexed by [int(1..2)] of int(0..9)\nsuch that @sum i : int(1..2) . x[i] = 5",
-        ),
-        ("F6", b"find x : int(1..3)\nfind y : int(1..@x)"),
-        ("F7", b"find x : @int"),
-    ];
-    for (fault, row) in rows {
-        assert_eq!(rt; of_whole(rt.alloc(), row)?, (fault, true), "{row:?}");
-    }
-    Ok(())
-}
-
-#[test]
-fn parameters_see_the_lettings_before_alone(rt: HostRuntime) -> Result<(), Fail> {
-    let rows: [(&str, &[u8]); 13] = [
-        ("fine", b"letting k be 3"),
-        (
-            "fine",
-            b"letting k be 3 letting l be [k, 1] letting K be domain int(1..k)",
-        ),
-        ("fine", b"letting k : int(1..3) be 2"),
-        ("fine", b"letting k be sum i : int(1..3) . i"),
-        (
-            "fine",
-            b"letting K be domain int(1..3) letting k : matrix indexed by [K] of K be [1, 2, 3]",
-        ),
-        ("F3", b"letting k be @n"),
-        ("F3", b"letting k be @l letting l be 1"),
-        ("F4", b"letting k be 3 letting @k be 3"),
-        ("F5", b"letting k be @1 + [1]"),
-        ("F5", b"letting k be 1 letting l : @k be 1"),
-        ("F7", b"letting k : @int be 1"),
-        (
-            "F7",
-            b"letting K be domain matrix indexed by [@int] of bool",
-        ),
-        ("F5", b"letting k be true letting l be @[k] + 1"),
-    ];
-    for (fault, row) in rows {
-        assert_eq!(rt; of_params(rt.alloc(), row)?, (fault, true), "{row:?}");
-    }
-    Ok(())
-}
+/// Parameters, which see the lettings before them alone.
+pub(crate) const PARAMS: &str = "fine letting k be 3
+fine letting k be 3 letting l be [k, 1] letting K be domain int(1..k)
+fine letting k : int(1..3) be 2
+fine letting k be sum i : int(1..3) . i
+fine letting K be domain int(1..3) letting k : matrix indexed by [K] of K be [1, 2, 3]
+F3 letting k be @n
+F3 letting k be @l letting l be 1
+F4 letting k be 3 letting @k be 3
+F5 letting k be @1 + [1]
+F5 letting k be 1 letting l : @k be 1
+F7 letting k : @int be 1
+F7 letting K be domain matrix indexed by [@int] of bool
+F5 letting k be true letting l be @[k] + 1";

@@ -1,10 +1,7 @@
 //! Where domains may be open.
 
-use crate::rows::first_wrong;
-use std::test::Fail;
-
 /// Givens of open domains.
-const OPEN: &str = "given k : int
+pub(crate) const OPEN: &str = "given k : int
 given k : (int)
 given k : int(..)
 given k : int(1..)
@@ -21,14 +18,8 @@ given k : matrix indexed by [D] of (int union int(..3))
 given k : matrix indexed by [D] of matrix indexed by [E] of int
 given k, l : int, o : int(1..k) find u : int(l..o)";
 
-#[test]
-fn domains_of_givens_may_be_open(rt: HostRuntime) -> Result<(), Fail> {
-    assert_eq!(rt; first_wrong(rt.alloc(), "fine", OPEN)?, None);
-    Ok(())
-}
-
 /// Texts with an open domain where none may stand.
-const CLOSED: &str = "$ Decision variables
+pub(crate) const CLOSED: &str = "$ Decision variables
 find k : @int
 find k : (@int)
 find k : @int(..)
@@ -72,9 +63,3 @@ $ Domains inside the bounds of a given
 given k : int(1..sum([i | i : @int]))
 given k : int(sum([1 ; @int])..)
 given k : int((sum i : @int(1..) . i)..)";
-
-#[test]
-fn no_other_domain_is_open(rt: HostRuntime) -> Result<(), Fail> {
-    assert_eq!(rt; first_wrong(rt.alloc(), "F7", CLOSED)?, None);
-    Ok(())
-}

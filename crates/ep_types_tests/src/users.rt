@@ -1,10 +1,7 @@
 //! What models of other programs have, and what is written in its place.
 
-use crate::rows::{first_other, first_wrong};
-use std::test::Fail;
-
 /// Texts that are refused.
-const REFUSED: &str = "F5 such that @sum i : D . m[i] = 5
+pub(crate) const REFUSED: &str = "F5 such that @sum i : D . m[i] = 5
 F7 given d : matrix indexed by [@int(1..)] of int
 F5 such that @x -> y = 1
 F5 such that @!x
@@ -21,14 +18,8 @@ F6 such that table(m, @q)
 F3 minimising @z find z : D
 F3 letting k be @z letting z be 1";
 
-#[test]
-fn forms_of_other_programs_are_refused(rt: HostRuntime) -> Result<(), Fail> {
-    assert_eq!(rt; first_other(rt.alloc(), REFUSED)?, None);
-    Ok(())
-}
-
 /// Texts that say the same, or that mean something else than their writer may think.
-const WRITTEN: &str = "such that (sum i : D . m[i]) = 5
+pub(crate) const WRITTEN: &str = "such that (sum i : D . m[i]) = 5
 such that (sum i : D . m[i] = 5) >= 1
 such that forAll i : D . forAll j : D . q[i, j] = 1
 such that 0 < x /\\ x < 5
@@ -51,9 +42,3 @@ such that -x ** 2 = 4
 such that forAll i : D . m[i] <= m[i + 1]
 branching on [m, y]
 minimising x * 10 + y";
-
-#[test]
-fn what_is_written_in_their_place_is_read(rt: HostRuntime) -> Result<(), Fail> {
-    assert_eq!(rt; first_wrong(rt.alloc(), "fine", WRITTEN)?, None);
-    Ok(())
-}
