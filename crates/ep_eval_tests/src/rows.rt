@@ -429,16 +429,16 @@ fn add(begun: &mut Begun, letter: u8) -> Result<(), EvalError> {
 
 /// Goes on by a letter of a form that is told by its number of parts.
 fn add_form(begun: &mut Begun, letter: u8) -> Result<(), EvalError> {
-    if b"(!_aT#FDSPAOmM".contains(&letter) {
+    if "(!_aT#FDSPAOmM".as_bytes().contains(&letter) {
         return add_one(begun, letter);
     }
-    if b"*/%^vV>@=~<LGHlkghEb".contains(&letter) {
+    if "*/%^vV>@=~<LGHlkghEb".as_bytes().contains(&letter) {
         return add_two(begun, letter);
     }
-    if b"cCK".contains(&letter) {
+    if "cCK".as_bytes().contains(&letter) {
         return add_three(begun, letter);
     }
-    if b"unw:pxXIB".contains(&letter) {
+    if "unw:pxXIB".as_bytes().contains(&letter) {
         return add_domain(begun, letter);
     }
     add_leaf(begun, letter)
@@ -491,26 +491,22 @@ fn told(letter: u8) -> i64 {
     }
 }
 
-/// Whether a row is right. A row without values is.
-fn is_right(alloc: Global, row: &[u8]) -> Result<bool, EvalError> {
-    let mut words = row.split(|byte| *byte == b' ');
-    let Some(text) = words.next() else {
-        return Ok(true);
-    };
-    let Some(values) = words.next() else {
-        return Ok(true);
-    };
-    let relational = values.first().copied().unwrap_or(b'?');
-    let strict = values.last().copied().unwrap_or(b'?');
-    let e = expression(alloc, text)?;
-    let one = is_worth(alloc, Mode::Relational, &e, relational)?;
-    let other = is_worth(alloc, Mode::Strict, &e, strict)?;
-    Ok(one && other)
+/// Whether a row is right.
+fn is_right(alloc: Global, row: &str) -> Result<bool, EvalError> {
+    let (text, said) = row.split_once(' ').unwrap_or((row, ""));
+    let e = expression(alloc, text.as_bytes())?;
+    match said.as_bytes() {
+        [relational, strict, ..] => Ok(
+            is_worth(alloc, Mode::Relational, &e, *relational)?
+                && is_worth(alloc, Mode::Strict, &e, *strict)?,
+        ),
+        _ => Ok(false),
+    }
 }
 
 /// The first row of a table that isn't right.
-fn first_wrong<'a>(alloc: Global, table: &'a [u8]) -> Result<Option<&'a [u8]>, EvalError> {
-    for row in table.split(|byte| *byte == b'\n') {
+fn first_wrong(alloc: Global, table: &str) -> Result<Option<&str>, EvalError> {
+    for row in table.lines() {
         if !is_right(alloc, row)? {
             return Ok(Some(row));
         }
@@ -518,10 +514,8 @@ fn first_wrong<'a>(alloc: Global, table: &'a [u8]) -> Result<Option<&'a [u8]>, E
     Ok(None)
 }
 
-#[test]
-fn numbers_are_computed(rt: HostRuntime) -> Result<(), Fail> {
-    let table = b"
-35+ 88 a sum
+/// Numbers.
+const NUMBERS: &str = "35+ 88 a sum
 35- bb a difference
 58- cc a chain
 23* 66 a product
@@ -556,16 +550,10 @@ tT 11 a truth value as a number
 1_28^4^28^*1-^ aa of the greatest odd number
 285*1+^ !! a power too far from 0
 99^9^ !! a number too far from 0
-99^9^0* !! also as a part
-";
-    assert_eq!(rt; first_wrong(rt.alloc(), table)?, None);
-    Ok(())
-}
+99^9^0* !! also as a part";
 
-#[test]
-fn truths_are_told(rt: HostRuntime) -> Result<(), Fail> {
-    let table = b"
-33= 11 equal
+/// Truth values.
+const TRUTHS: &str = "33= 11 equal
 34~ 11 not equal
 34< 11 less
 33< 00 not less
@@ -594,16 +582,10 @@ ff> 11 implies
 ft> 11 implies
 fyy=> 1. behind a false one
 ff@ 11 exactly if
-tf@ 00 exactly if
-";
-    assert_eq!(rt; first_wrong(rt.alloc(), table)?, None);
-    Ok(())
-}
+tf@ 00 exactly if";
 
-#[test]
-fn lists_are_joined_and_compared(rt: HostRuntime) -> Result<(), Fail> {
-    let table = b"
-[]S 00 of no part
+/// Lists that are joined and compared.
+const LISTS: &str = "[]S 00 of no part
 []P 11 of no part
 []A 11 of no part
 []O 00 of no part
@@ -635,16 +617,10 @@ fn lists_are_joined_and_compared(rt: HostRuntime) -> Result<(), Fail> {
 [123]D 11 all differ
 [121]D 00 also where they stand apart
 []D 11 of no part
-[1y]D 0. a part has no value
-";
-    assert_eq!(rt; first_wrong(rt.alloc(), table)?, None);
-    Ok(())
-}
+[1y]D 0. a part has no value";
 
-#[test]
-fn parts_are_counted(rt: HostRuntime) -> Result<(), Fail> {
-    let table = b"
-[211][12][21]c 11 so many
+/// Parts that are counted.
+const COUNTS: &str = "[211][12][21]c 11 so many
 [211][12][11]c 00 not at least
 [211][12][22]c 00 nor at most
 [211][12][2]c 0. lengths differ
@@ -659,16 +635,10 @@ fn parts_are_counted(rt: HostRuntime) -> Result<(), Fail> {
 [13][[12][34]]b 00 no row
 [12][]b 00 no row at all
 [12][[12][3]]b 0. a row has another length
-[1y][[12][34]]b 0. a part has no value
-";
-    assert_eq!(rt; first_wrong(rt.alloc(), table)?, None);
-    Ok(())
-}
+[1y][[12][34]]b 0. a part has no value";
 
-#[test]
-fn domains_have_their_numbers(rt: HostRuntime) -> Result<(), Fail> {
-    let table = b"
-213:e 11 within
+/// Domains and their numbers.
+const DOMAINS: &str = "213:e 11 within
 413:e 00 not within
 231:e 00 an empty range
 21y:e 0. an end has no value
@@ -693,16 +663,10 @@ y[12]E 0. the number has no value
 213:1y:ue 0. one has no value
 23y:13:we 0. one has no value
 213:BXe 0. a matrix domain has no numbers
-2Ie 0. nor has a domain of all numbers
-";
-    assert_eq!(rt; first_wrong(rt.alloc(), table)?, None);
-    Ok(())
-}
+2Ie 0. nor has a domain of all numbers";
 
-#[test]
-fn quantifiers_have_their_values(rt: HostRuntime) -> Result<(), Fail> {
-    let table = b"
-13:i4<Q 11 for all
+/// Quantifiers.
+const QUANTIFIERS: &str = "13:i4<Q 11 for all
 13:i3<Q 00 not for all
 13:i2<W 11 for some
 13:i1<W 00 for none
@@ -726,16 +690,10 @@ fn quantifiers_have_their_values(rt: HostRuntime) -> Result<(), Fail> {
 10:jz 00 over nothing
 1y:jq 0. the domain has no value
 1y:jo 0. the domain has no value
-1y:jz .. the domain has no value
-";
-    assert_eq!(rt; first_wrong(rt.alloc(), table)?, None);
-    Ok(())
-}
+1y:jz .. the domain has no value";
 
-#[test]
-fn lists_in_brackets_are_matrices(rt: HostRuntime) -> Result<(), Fail> {
-    let table = b"
-[12]S 33 parts
+/// Lists in brackets, as matrices.
+const MATRICES: &str = "[12]S 33 parts
 [1234:;S 33 as many indices as parts
 [1235:;S .. more indices than parts
 [1233:;S .. fewer indices than parts
@@ -755,16 +713,10 @@ fn lists_in_brackets_are_matrices(rt: HostRuntime) -> Result<(), Fail> {
 [[34][12]]21R 11 by two indices
 [[12][34]]2sS 66 a column
 [[12][34]]2rS 77 a row
-[[3467:;]F1r 33 flattened parts have indices from 1
-";
-    assert_eq!(rt; first_wrong(rt.alloc(), table)?, None);
-    Ok(())
-}
+[[3467:;]F1r 33 flattened parts have indices from 1";
 
-#[test]
-fn comprehensions_are_matrices(rt: HostRuntime) -> Result<(), Fail> {
-    let table = b"
-13:itNS 66 the numbers
+/// Comprehensions.
+const COMPREHENSIONS: &str = "13:itNS 66 the numbers
 13:itN2r 22 indices from 1
 13:ii2=!NS 44 those that pass
 13:ii2=!N2r 33 with indices in a row
@@ -782,16 +734,10 @@ fn comprehensions_are_matrices(rt: HostRuntime) -> Result<(), Fail> {
 13:7i:itYS .. the index domain doesn't see the name
 12:1i:jJS 44 later domains see earlier names
 12:1i:jJ3r 22 in order
-12:1i:iJS 55 and so does the expression
-";
-    assert_eq!(rt; first_wrong(rt.alloc(), table)?, None);
-    Ok(())
-}
+12:1i:iJS 55 and so does the expression";
 
-#[test]
-fn reads_outside_differ_by_type(rt: HostRuntime) -> Result<(), Fail> {
-    let table = b"
-[34]3r .. outside of numbers
+/// Reads outside of a matrix.
+const READS: &str = "[34]3r .. outside of numbers
 [34]0r .. also below
 [34]yr .. the index has no value
 [34]3r3= 0. inside a comparison
@@ -808,9 +754,23 @@ fn reads_outside_differ_by_type(rt: HostRuntime) -> Result<(), Fail> {
 [t10/1=]2r 0. and is false
 [[tf][ft]]12R 00 within rows
 [[tf][ft]]13R 0. outside of a row
-[[tf][ft]]3sO 0. a column that no row has
-";
-    assert_eq!(rt; first_wrong(rt.alloc(), table)?, None);
+[[tf][ft]]3sO 0. a column that no row has";
+
+#[test]
+fn expressions_are_worth_what_rows_say(rt: HostRuntime) -> Result<(), Fail> {
+    for table in [
+        NUMBERS,
+        TRUTHS,
+        LISTS,
+        COUNTS,
+        DOMAINS,
+        QUANTIFIERS,
+        MATRICES,
+        COMPREHENSIONS,
+        READS,
+    ] {
+        assert_eq!(rt; first_wrong(rt.alloc(), table)?, None);
+    }
     Ok(())
 }
 

@@ -45,59 +45,32 @@ fn scalar_of(alloc: Global, text: &[u8]) -> Result<u8, EvalError> {
 }
 
 /// Whether a row is right: that of an expression, or behind a blank that of a domain.
-fn is_right(alloc: Global, row: &[u8]) -> Result<bool, EvalError> {
-    match row {
+fn is_right(alloc: Global, row: &str) -> Result<bool, EvalError> {
+    match row.as_bytes() {
         [b' ', text @ .., b' ', letter] => Ok(scalar_of(alloc, text)? == *letter),
         [text @ .., b' ', letter] => Ok(type_of(alloc, text)? == *letter),
-        _ => Ok(row.is_empty()),
+        _ => Ok(false),
     }
 }
 
-/// The first row of a table that isn't right.
-fn first_wrong<'a>(alloc: Global, table: &'a [u8]) -> Result<Option<&'a [u8]>, EvalError> {
-    for row in table.split(|byte| *byte == b'\n') {
-        if !is_right(alloc, row)? {
-            return Ok(Some(row));
-        }
-    }
-    Ok(None)
-}
-
-#[test]
-fn quantified_names_have_the_type_of_their_domain(rt: HostRuntime) -> Result<(), Fail> {
-    let table = b"
-Biq b
+/// Quantified names have the type of their domain, comprehensions are lists of their expression, what has no type counts as a number,
+/// and the values of two domains are Boolean where both are.
+const TYPES: &str = "Biq b
 Bjq b
 3pjq n
-Bjq! b";
-    assert_eq!(rt; first_wrong(rt.alloc(), table)?, None);
-    Ok(())
-}
-
-#[test]
-fn comprehensions_are_lists_of_their_expression(rt: HostRuntime) -> Result<(), Fail> {
-    let table = b"
+Bjq! b
 Bid B
-3pid N";
-    assert_eq!(rt; first_wrong(rt.alloc(), table)?, None);
-    Ok(())
-}
-
-#[test]
-fn what_has_no_type_counts_as_a_number(rt: HostRuntime) -> Result<(), Fail> {
-    let table = b"
+3pid N
 y n
- x n";
-    assert_eq!(rt; first_wrong(rt.alloc(), table)?, None);
-    Ok(())
-}
-
-#[test]
-fn the_values_of_two_domains_are_boolean_where_both_are(rt: HostRuntime) -> Result<(), Fail> {
-    let table = b"
+ x n
  B b
  BBu b
  B3pu n";
-    assert_eq!(rt; first_wrong(rt.alloc(), table)?, None);
+
+#[test]
+fn expressions_and_domains_have_their_types(rt: HostRuntime) -> Result<(), Fail> {
+    for row in TYPES.lines() {
+        assert!(rt; is_right(rt.alloc(), row)?, "{row}");
+    }
     Ok(())
 }
