@@ -7,7 +7,7 @@ use std::test::Fail;
 
 /// Whether a row is right: a model, its parameters, a solution text, and what is said of them in the relational and in
 /// the strict mode. Where the last part is missing, the same is said in both.
-fn is_right(alloc: Global, row: &str) -> Result<bool, Fail> {
+pub(crate) fn is_right(alloc: Global, row: &str) -> Result<bool, Fail> {
     let (model, rest) = cut(row);
     let (params, rest) = cut(rest);
     let (solution, rest) = cut(rest);
@@ -25,18 +25,8 @@ fn is_right(alloc: Global, row: &str) -> Result<bool, Fail> {
     Ok(other.as_str() == wanted)
 }
 
-/// The first row of a table that isn't right. A line that is a comment is a heading.
-fn first_wrong(alloc: Global, table: &str) -> Result<Option<&str>, Fail> {
-    for row in table.lines() {
-        if !row.starts_with('$') && !is_right(alloc, row)? {
-            return Ok(Some(row));
-        }
-    }
-    Ok(None)
-}
-
 /// Texts that are bound or refused.
-const BOUND: &str = "$ Parameters
+pub(crate) const BOUND: &str = "$ Parameters
 given n : int(1..9) where n % 2 = 0 find x : int(1..n) minimising n#letting n be 3##F11 1
 given n : int(1..9) where n % 2 = 0 find x : int(1..n) minimising n#letting n be 10##F9 n
 given n : int(1..9) where n % 2 = 0 find x : int(1..n) minimising n###F8 n
@@ -83,17 +73,8 @@ letting b be [true, false][3]###solution#F10 model 2:1
 letting m be [i | i : int(1..3), 1/(i - 1) > 0] minimising sum(m)###solution 2#F10 model 2:1
 given n : int(1..2)#letting n be toInt(1/0 = 1)##F9 n#F10 params 1:1";
 
-#[test]
-fn models_are_bound(rt: HostRuntime) -> Result<(), Fail> {
-    let alloc = rt.alloc();
-    let wrong = "where !(1/0 = 1)###solution";
-    assert_eq!(rt; first_wrong(alloc, BOUND)?, None);
-    assert_eq!(rt; first_wrong(alloc, wrong)?, Some(wrong));
-    Ok(())
-}
-
 /// Solution texts.
-const JUDGED: &str = "$ Clauses and objectives
+pub(crate) const JUDGED: &str = "$ Clauses and objectives
 find x : int(0..0) such that !(10/x > 2)##letting x be 0#solution#violated 1
 find m : matrix indexed by [int(1..2)] of bool find i : int(3..3) such that !m[1], !m[2], toInt(m[i]) = 0##letting m be [false, false] letting i be 3#solution#violated 3
 find m : matrix indexed by [int(1..2)] of bool find i : int(3..3) such that !m[1], !m[2], toInt(m[i]) = 0##letting m be [false, true] letting i be 3#violated 2
@@ -135,9 +116,3 @@ $ Sums and letters
 find S, E, N, D, M, O, R, Y : int(0..9) such that 1000*S + 100*E + 10*N + D + 1000*M + 100*O + 10*R + E = 10000*M + 1000*O + 100*N + 10*E + Y, S != 0, M != 0, allDiff([S, E, N, D, M, O, R, Y])##letting S be 9 letting E be 5 letting N be 6 letting D be 7 letting M be 1 letting O be 0 letting R be 8 letting Y be 2#solution
 find S, E, N, D, M, O, R, Y : int(0..9) such that 1000*S + 100*E + 10*N + D + 1000*M + 100*O + 10*R + E = 10000*M + 1000*O + 100*N + 10*E + Y, S != 0, M != 0, allDiff([S, E, N, D, M, O, R, Y])##letting S be 9 letting E be 5 letting N be 6 letting D be 7 letting M be 1 letting O be 0 letting R be 8 letting Y be 3#violated 1
 find S, E, N, D, M, O, R, Y : int(0..9) such that 1000*S + 100*E + 10*N + D + 1000*M + 100*O + 10*R + E = 10000*M + 1000*O + 100*N + 10*E + Y, S != 0, M != 0, allDiff([S, E, N, D, M, O, R, Y])##letting S be 9 letting E be 5 letting N be 6 letting D be 7 letting M be 1 letting O be 0 letting R be 8#wrong shape Y";
-
-#[test]
-fn solution_texts_are_judged(rt: HostRuntime) -> Result<(), Fail> {
-    assert_eq!(rt; first_wrong(rt.alloc(), JUDGED)?, None);
-    Ok(())
-}

@@ -9,6 +9,8 @@ mod measured;
 #[cfg(test)]
 mod reaches;
 #[cfg(test)]
+mod tables;
+#[cfg(test)]
 mod texts;
 #[cfg(test)]
 mod values;

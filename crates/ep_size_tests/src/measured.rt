@@ -15,7 +15,7 @@ fn measured(alloc: Global, mode: Mode, model: &str, params: &str) -> Result<Stri
 
 /// Whether a row is right: a model, its parameters, and what is said in the relational and in the strict mode. Where the
 /// last part is missing, the same is said in both.
-fn is_right(alloc: Global, row: &str) -> Result<bool, Fail> {
+pub(crate) fn is_right(alloc: Global, row: &str) -> Result<bool, Fail> {
     let (model, rest) = cut(row);
     let (params, rest) = cut(rest);
     let (relational, strict) = cut(rest);
@@ -27,18 +27,8 @@ fn is_right(alloc: Global, row: &str) -> Result<bool, Fail> {
     Ok(one.as_str() == relational && other.as_str() == strict)
 }
 
-/// The first row of a table that isn't right. A line that is a comment is a heading.
-fn first_wrong(alloc: Global, table: &str) -> Result<Option<&str>, Fail> {
-    for row in table.lines() {
-        if !row.starts_with('$') && !is_right(alloc, row)? {
-            return Ok(Some(row));
-        }
-    }
-    Ok(None)
-}
-
 /// Instances, and how great they are.
-const INSTANCES: &str = "$ Cells, clauses and objectives
+pub(crate) const INSTANCES: &str = "$ Cells, clauses and objectives
 ##0 0
 find x : int(1..3) such that x > 2##4 7
 find x : int(1..3) such that x > 2 minimising -x##6 10
@@ -77,22 +67,7 @@ find x : int(0..16384) such that x ** 3 = 8##L5
 find x, y : int(0..9999) such that x * y = 6, 2**41 > 0##L5
 find x, y : int(0..9999) such that x * y = 6 find m : matrix indexed by [int(1..4999995)] of int(1)##L4";
 
-#[test]
-fn instances_are_measured(rt: HostRuntime) -> Result<(), Fail> {
-    let alloc = rt.alloc();
-    let wrong = "such that true##2 0";
-    assert_eq!(rt; first_wrong(alloc, INSTANCES)?, None);
-    assert_eq!(rt; first_wrong(alloc, wrong)?, Some(wrong));
-    Ok(())
-}
-
 /// Instances with as many nodes as there may be, and with more.
-const MANY_NODES: &str = "\
+pub(crate) const MANY_NODES: &str = "\
 such that forAll i : int(1..4999997) . true##5000000 0
 such that forAll i : int(1..4999998) . true##L4";
-
-#[test]
-fn nodes_are_counted_up_to_their_limit(rt: HostRuntime) -> Result<(), Fail> {
-    assert_eq!(rt; first_wrong(rt.alloc(), MANY_NODES)?, None);
-    Ok(())
-}

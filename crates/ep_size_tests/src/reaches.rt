@@ -25,7 +25,7 @@ fn own_measures(alloc: Global, e: &str) -> Result<Result<(u64, u64), String>, Fa
 }
 
 /// Whether a row is right: an expression, and its size or its weight.
-fn has_measure(alloc: Global, row: &str) -> Result<bool, Fail> {
+pub(crate) fn has_measure(alloc: Global, row: &str) -> Result<bool, Fail> {
     let (e, wanted) = cut(row);
     match own_measures(alloc, e)? {
         Ok((size, weight)) => {
@@ -37,18 +37,8 @@ fn has_measure(alloc: Global, row: &str) -> Result<bool, Fail> {
     }
 }
 
-/// The first row of a table that isn't right.
-fn first_misweighed(alloc: Global, table: &str) -> Result<Option<&str>, Fail> {
-    for row in table.lines() {
-        if !has_measure(alloc, row)? {
-            return Ok(Some(row));
-        }
-    }
-    Ok(None)
-}
-
 /// Expressions, and their sizes or their weights.
-const MEASURES: &str = "toInt(b)#size 2
+pub(crate) const MEASURES: &str = "toInt(b)#size 2
 factorial(3)#size 2
 |x|#size 2
 sum(v)#size 2
@@ -91,15 +81,6 @@ x in toSet([[y],[1; int(1..2)]])#weight 16
 sum(Q[1,..])#weight 12
 exists i, j : int(1..2) . b#weight 9";
 
-#[test]
-fn expressions_have_their_measures(rt: HostRuntime) -> Result<(), Fail> {
-    let alloc = rt.alloc();
-    let wrong = "s = s#weight 9";
-    assert_eq!(rt; first_misweighed(alloc, MEASURES)?, None);
-    assert_eq!(rt; first_misweighed(alloc, wrong)?, Some(wrong));
-    Ok(())
-}
-
 /// Whether an expression is measured, and not so the one where one more is added.
 fn is_at_limit(alloc: Global, e: &str, more: &str) -> Result<bool, Fail> {
     let farther = format!(in alloc; "{e} {more} 1")?;
@@ -127,7 +108,7 @@ fn minus_weight(alloc: Global, e: &str) -> Result<u64, Fail> {
 
 /// Whether a row is right: an expression, the least and the greatest number that it reaches, and what a minus before it
 /// weighs.
-fn has_reach(alloc: Global, row: &str) -> Result<bool, Fail> {
+pub(crate) fn has_reach(alloc: Global, row: &str) -> Result<bool, Fail> {
     let (e, rest) = cut(row);
     let (least, rest) = cut(rest);
     let (greatest, wanted) = cut(rest);
@@ -142,18 +123,8 @@ fn has_reach(alloc: Global, row: &str) -> Result<bool, Fail> {
     )
 }
 
-/// The first row of a table that isn't right.
-fn first_misreached(alloc: Global, table: &str) -> Result<Option<&str>, Fail> {
-    for row in table.lines() {
-        if !has_reach(alloc, row)? {
-            return Ok(Some(row));
-        }
-    }
-    Ok(None)
-}
-
 /// Expressions, and what they reach.
-const REACHES: &str = "x % 1#0#0#1
+pub(crate) const REACHES: &str = "x % 1#0#0#1
 x % e#0#0#1
 y % e#0#0#1
 e % x#0#8#9
@@ -186,13 +157,3 @@ w[1]#0#1#2
 [[v,v][3,..],v][1,1]#0#0#1
 [[v,v][3,..],v][z,1]#1#3#3
 sum([[v,v][3,..],v][2,..])#2#6#5";
-
-#[test]
-fn expressions_have_their_reaches(rt: HostRuntime) -> Result<(), Fail> {
-    let alloc = rt.alloc();
-    assert_eq!(rt; first_misreached(alloc, REACHES)?, None);
-    for wrong in ["x#0#8#10", "x#1#9#10", "x#0#9#9"] {
-        assert_eq!(rt; first_misreached(alloc, wrong)?, Some(wrong));
-    }
-    Ok(())
-}
