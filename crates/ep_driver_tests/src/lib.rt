@@ -17,3 +17,5 @@ mod generated;
 mod problems;
 #[cfg(test)]
 mod runs;
+#[cfg(test)]
+mod tables;

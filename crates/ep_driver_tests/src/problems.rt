@@ -56,16 +56,11 @@ fn first_wrong_problem<R: Threads + Sync + AllocGlobal>(
 }
 
 #[test]
-fn problems_have_their_answers(rt: HostRuntime) -> Result<(), Fail> {
-    let wrong = first_wrong_problem(&rt, ANSWERED)?;
-    assert_eq!(rt; wrong.as_str(), "");
-    Ok(())
-}
-
-#[test]
-fn problems_are_refused_at_their_line_or_limit(rt: HostRuntime) -> Result<(), Fail> {
-    let wrong = first_wrong_problem(&rt, REFUSED)?;
-    assert_eq!(rt; wrong.as_str(), "");
+fn problems_are_answered_or_refused(rt: HostRuntime) -> Result<(), Fail> {
+    for table in [ANSWERED, REFUSED] {
+        let wrong = first_wrong_problem(&rt, table)?;
+        assert_eq!(rt; wrong.as_str(), "");
+    }
     Ok(())
 }
 
