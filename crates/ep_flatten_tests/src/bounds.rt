@@ -21,18 +21,13 @@ fn power_of_three(alloc: Global, exponent: u64, clause: u32) -> Result<Ground, F
 
 #[test]
 fn a_power_is_bounded_as_far_as_the_stages_compute(rt: HostRuntime) -> Result<(), Fail> {
-    let near = power_of_three(rt.alloc(), 25, 1)?;
-    let far = power_of_three(rt.alloc(), 26, 1)?;
-    assert_eq!(rt; is_bounded(rt.alloc(), &near)?, true);
-    assert_eq!(rt; is_bounded(rt.alloc(), &far)?, false);
-    Ok(())
-}
-
-#[test]
-fn a_clause_has_to_be_a_term(rt: HostRuntime) -> Result<(), Fail> {
-    let right = power_of_three(rt.alloc(), 2, 1)?;
-    let wrong = power_of_three(rt.alloc(), 2, 2)?;
-    assert_eq!(rt; is_well_formed(&right), true);
-    assert_eq!(rt; is_well_formed(&wrong), false);
+    for (exponent, wanted) in [(25, true), (26, false)] {
+        let ground = power_of_three(rt.alloc(), exponent, 1)?;
+        assert_eq!(rt; is_bounded(rt.alloc(), &ground)?, wanted);
+    }
+    for (clause, wanted) in [(1, true), (2, false)] {
+        let ground = power_of_three(rt.alloc(), 2, clause)?;
+        assert_eq!(rt; is_well_formed(&ground), wanted);
+    }
     Ok(())
 }

@@ -95,24 +95,10 @@ xc##1..64 *
 ya##0..2 *
 x!##0..1 *";
 
-#[test]
-fn operations_have_the_intervals_of_their_parts(rt: HostRuntime) -> Result<(), Fail> {
-    let wrong = first_wrong(rt.alloc(), OPERATIONS)?;
-    assert_eq!(rt; wrong.as_str(), "");
-    Ok(())
-}
-
 const LISTS: &str = "\
 xy-##6..21 -2*0 3*1 1*2 = 10
 xym##-1..2 *
 xyM##1..4 *";
-
-#[test]
-fn lists_have_the_intervals_of_their_parts(rt: HostRuntime) -> Result<(), Fail> {
-    let wrong = first_wrong(rt.alloc(), LISTS)?;
-    assert_eq!(rt; wrong.as_str(), "");
-    Ok(())
-}
 
 /// Sums that are used once: in `7 * x + y <= x * 2 + 5` they stand by their parts, and `7 * x` and `x * 2 + 5` alone are sums of these.
 const USED_ONCE: &str = "\
@@ -120,20 +106,15 @@ const USED_ONCE: &str = "\
 7x*##7..28 -7*0 1*2 = 0
 x2*p##7..13 -2*0 1*2 = 5";
 
-#[test]
-fn sums_of_one_use_stand_by_their_parts(rt: HostRuntime) -> Result<(), Fail> {
-    let wrong = first_wrong(rt.alloc(), USED_ONCE)?;
-    assert_eq!(rt; wrong.as_str(), "");
-    Ok(())
-}
-
 /// The first of these sums is minimised too, and so it has a variable.
 const USED_TWICE: &str = "7x*y+#7x*y+x2*p<#6..30 -7*0 -1*1 1*2 = 0 1*2 -2*0 <= 5";
 
 #[test]
-fn other_sums_stand_for_themselves(rt: HostRuntime) -> Result<(), Fail> {
-    let wrong = first_wrong(rt.alloc(), USED_TWICE)?;
-    assert_eq!(rt; wrong.as_str(), "");
+fn grounds_have_their_constraints(rt: HostRuntime) -> Result<(), Fail> {
+    for table in [OPERATIONS, LISTS, USED_ONCE, USED_TWICE] {
+        let wrong = first_wrong(rt.alloc(), table)?;
+        assert_eq!(rt; wrong.as_str(), "");
+    }
     Ok(())
 }
 

@@ -118,13 +118,6 @@ const DECIDED: &str = "\
 #x0*1<# 0 x 1 :,2
 33<## 0 3 1 : 2";
 
-#[test]
-fn comparisons_are_decided_by_numbers_and_intervals(rt: HostRuntime) -> Result<(), Fail> {
-    let wrong = first_wrong(rt.alloc(), DECIDED)?;
-    assert_eq!(rt; wrong.as_str(), "");
-    Ok(())
-}
-
 const JOINED: &str = "\
 #x2<1&# 0 x 2 1<=2 1 :,3
 #x2<0&# 0 x 2 1<=2 :,0
@@ -138,9 +131,11 @@ const JOINED: &str = "\
 #x2<y1<&!!# 0 x 2 1<=2 y 1 4<=5 &,3,6 !7 :,7";
 
 #[test]
-fn truths_are_joined_without_those_that_are_known(rt: HostRuntime) -> Result<(), Fail> {
-    let wrong = first_wrong(rt.alloc(), JOINED)?;
-    assert_eq!(rt; wrong.as_str(), "");
+fn comparisons_are_decided_and_truths_joined(rt: HostRuntime) -> Result<(), Fail> {
+    for table in [DECIDED, JOINED] {
+        let wrong = first_wrong(rt.alloc(), table)?;
+        assert_eq!(rt; wrong.as_str(), "");
+    }
     Ok(())
 }
 
