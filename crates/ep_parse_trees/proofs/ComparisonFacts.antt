@@ -1,7 +1,7 @@
 -- What stands behind the first part of a comparison.
 use Rattle.std.specs.Prelude.{◌≡◌, ℕ, Bool, true, false, not, nat_lt, List, Option, Some, None, refl}
 use Rattle.std.proofs.Common.{ap, ◌∙◌}
-use Rattle.ep_parse_trees.specs.Chains.{operator_behind, where_so}
+use Rattle.ep_parse_below.specs.Chains.{operator_behind, where_so}
 use Rattle.ep_parse_parts.specs.OperandReaders.{Lower, if_low}
 use Rattle.ep_parse_parts.specs.OperatorReaders.{Comparison, compared_with, comparison_behind, comparison_words, operated}
 use Rattle.ep_parse_parts.specs.Readers.{Read, behind, if_some, next_in, took}

@@ -1,7 +1,7 @@
 -- Reading at a height, by readers of what is lower.
 use Rattle.std.specs.Prelude.{◌≡◌, ◌-◌, ◌≤◌, ℕ, zero, suc, Bool, true, false, List, Result, Ok, Err, if◌then◌else◌, refl}
 use Rattle.std.proofs.Common.{ap, arith, sym, subst, ◌∙◌}
-use Rattle.ep_parse_trees.proofs.ListLoops.{finds_as, stops_as}
+use Rattle.ep_parse_below.proofs.ListLoops.{finds_as, stops_as}
 use Rattle.ep_parse_parts.specs.Cursors.{StopsReading}
 use Rattle.ep_parse_parts.specs.DomainReaders.{domain_at_level}
 use Rattle.ep_parse_parts.specs.Founds.{Finds, FindsDomain, lower}

@@ -1,10 +1,4 @@
-pub mod OperandFacts
-pub mod WordFacts
-pub mod ChainTurns
 pub mod ComparisonFacts
-pub mod SetTurns
 pub mod JunctionTurns
-pub mod ListLoops
 pub mod Descending
-pub mod DomainLoops
 pub mod TermTurns

@@ -2,7 +2,7 @@
 use Rattle.std.specs.Prelude.{◌≡◌, ◌<◌, ℕ, Bool, true, false, not, ◌&&◌, nat_le, nat_lt, List, [], ◌∷◌, ◌++◌, length, map, Option, Some, None, OnOk, Result, Ok, Err, refl}
 use Rattle.std.proofs.Common.{ap, arith, subst, sym, is_some, ◌∙◌}
 use Rattle.ep_base.specs.declared.places.Place.{Place}
-use Rattle.ep_parse_trees.proofs.ChainTurns.{behind_shorter}
+use Rattle.ep_parse_below.proofs.ChainTurns.{behind_shorter}
 use Rattle.ep_parse_parts.proofs.FirstTurns.{gathered, regrouped, stops_inside}
 use Rattle.ep_parse_parts.proofs.ListTurns.{list_ends, list_fails, list_goes}
 use Rattle.ep_parse_parts.proofs.NameTurns.{continued, kept_is}

@@ -1,4 +1,1 @@
-pub mod Chains
-pub mod Lowers
-pub mod Calls
 pub mod Junctions

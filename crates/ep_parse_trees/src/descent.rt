@@ -6,7 +6,8 @@ ghost use Rattle.ep_parse_parts.specs.Founds.{Finds, FindsDomain};
 ghost use Rattle.ep_parse_parts.specs.Openings.{domain_level_of, level_of};
 ghost use Rattle.ep_parse_parts.specs.TreeReaders.{expr_from, some_domain_from};
 
-use crate::below::Below;
+use crate::operators::at_level;
+use ep_parse_below::Below;
 use ep_parse_parts::{Cursor, DomainLevel, Found, FoundDomain, Level, Stop, lone_number};
 use std::alloc::Global;
 
@@ -33,7 +34,7 @@ pub fn expr(alloc: Global, cursor: &mut Cursor<'_>, level: Level, most: u64) -> 
             ensures read { FindsDomain result cursor.new (some_domain_from less (domain_level_of level) cursor.old) }
         { domain(alloc, cursor, level, less) },
     };
-    below.at_level(cursor, level)
+    at_level(&below, cursor, level)
 }
 
 /// A domain of at most a height that stands where a level is asked for, as far as one goes on.

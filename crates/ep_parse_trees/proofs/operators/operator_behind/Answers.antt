@@ -1,5 +1,5 @@
 use Rattle.std.proofs.Common.{sym, ◌∙◌}
-use Rattle.ep_parse_trees.proofs.WordFacts.{behind_nothing, behind_open, behind_word}
+use Rattle.ep_parse_below.proofs.WordFacts.{behind_nothing, behind_open, behind_word}
 use Rattle.ep_parse_trees.proofs.operators.operator_behind.Goals as goal
 
 pub returns-then-left : goal.returns-then-left

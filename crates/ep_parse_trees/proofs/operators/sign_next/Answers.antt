@@ -1,5 +1,5 @@
 use Rattle.std.proofs.Common.{sym}
-use Rattle.ep_parse_trees.proofs.SetTurns.{no_operation, operation_is}
+use Rattle.ep_parse_below.proofs.SetTurns.{no_operation, operation_is}
 use Rattle.ep_parse_parts.specs.OperatorReaders.{sign_words}
 use Rattle.ep_parse_trees.proofs.operators.sign_next.Goals as goal
 

@@ -1,4 +1,4 @@
-use Rattle.ep_parse_trees.proofs.ListLoops.{by_comma, by_every, by_group, by_none, stays_so}
+use Rattle.ep_parse_below.proofs.ListLoops.{by_comma, by_every, by_group, by_none, stays_so}
 use Rattle.ep_parse_trees.proofs.reads.passes_to_index.Goals as goal
 
 pub returns-then-passes : goal.returns-then-passes

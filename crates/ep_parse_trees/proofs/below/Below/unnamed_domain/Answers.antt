@@ -1,6 +1,0 @@
-use Rattle.std.proofs.Common.{sym}
-use Rattle.ep_parse_trees.proofs.OperandFacts.{domain_nothing}
-use Rattle.ep_parse_trees.proofs.below.Below.unnamed_domain.Goals as goal
-
-pub returns-in-None : goal.returns-in-None
-returns-in-None g c = record { read = domain_nothing _ _ _ c.requires.no_name (sym c.in-None.ensures.next) }
