@@ -1,6 +1,8 @@
 -- What settles the task that words ask for is what a run promises.
 use Rattle.std.proofs.Common.{◌≡◌, ◌∙◌, ℕ, ℤ, ◌⊎◌, Bool, true, false, List, [], ◌∷◌, Option, Some, None, Ok, Err, Result, IfSome, inl, inr, refl, sym, ap, subst}
 use Rattle.cnf_core.specs.Events.{LogState}
+use Rattle.cnf_core.specs.Lines.{ProofLine}
+use Rattle.cnf_core.specs.Literal.{Literal}
 use Rattle.ep_base.proofs.Small.{some_is}
 use Rattle.ep_base.specs.Outside.{Held}
 use Rattle.ep_base.specs.declared.names.Name.{Name}
@@ -20,13 +22,19 @@ use Rattle.ep_tree.specs.Solutions.{Assigned, Found, IsSolution, IsWritten, a_so
 use Rattle.ep_tree.specs.Statements.{TextTree}
 use Rattle.ep_tree.specs.Texts.{Answers, SpellsText, TextAnswer, bad_byte, long_number, read_as, syntax_fault, too_high, too_long}
 use Rattle.ep_tree.specs.declared.values.Mode.{Mode}
-use Rattle.ep_driver.specs.Answers.{Settles, judgement_status}
+use Rattle.log_check.proofs.Verified.{verified_has_no_solution}
+use Rattle.log_check.specs.Verdict.{verdict_of}
+use Rattle.log_check.specs.declared.Verdict.{Verdict}
+use Rattle.log_check.specs.declared.Verdict.TheVariants.{Verified, BadStep, NoEmptyClause}
+use Rattle.sat_text.specs.CnfGrammar.{SpellsCnf}
+use Rattle.ep_driver.specs.Answers.{Settles, judgement_status, verdict_status}
 use Rattle.ep_said.specs.Judgements.{judgement_text}
+use Rattle.ep_said.specs.Verdicts.{verdict_text}
 use Rattle.ep_driver.specs.Commands.{Want}
-use Rattle.ep_driver.specs.Outcomes.{Outcome, Task, as_outcome, fault_refusals, instance_of, search_outcome, searched_task, to_judge, to_solve_opb, verify_outcome}
+use Rattle.ep_driver.specs.Outcomes.{Outcome, Task, as_outcome, fault_refusals, instance_of, search_outcome, searched_task, to_check, to_judge, to_solve_opb, verify_outcome}
 use Rattle.ep_driver.specs.Promised.{FilesMake, HoldsGiven, IsPromised}
-use Rattle.ep_files.specs.Readings.{AreParams, IsHeldReadBy, IsFileReadAs, IsReadBy, IsTextReadAs, spells_in, tree_or_refusal}
-use Rattle.ep_driver.specs.Shown.{Ask, ComesTo, IsOpbTextReadAs, ThenShows, comes_to_judge, comes_to_search, comes_to_verify, is_opb_task}
+use Rattle.ep_files.specs.Readings.{AreParams, IsFormulaReadAs, IsHeldReadBy, IsFileReadAs, IsProofReadAs, IsReadBy, IsTextReadAs, SpellsFormulaClauses, spells_in, tree_or_refusal}
+use Rattle.ep_driver.specs.Shown.{Ask, ComesTo, IsOpbTextReadAs, ThenShows, comes_to_check, comes_to_judge, comes_to_search, comes_to_verify, is_opb_task}
 use Rattle.ep_files.specs.declared.status.Status.{Status}
 use Rattle.ep_driver.specs.declared.wanted.Request.{Request}
 use Rattle.ep_driver.specs.declared.wanted.Wanted.{Wanted}
@@ -195,6 +203,24 @@ opb_true : (held : Held) (opb : List ℕ) (conflicts : ℕ) (own : List ℕ) (co
 unfolding IsPromised Settles
 opb_true held opb conflicts own content status text log kept spelled h = (own, kept, content, spelled, h.0, h.1, h.3, h.4)
 
+-- a file that is read as the clauses of a formula holds a text that spells them
+held_formula : (name : List ℕ) (told : Option (List ℕ)) (clauses : List (List Literal)) → IsHeldReadBy IsFormulaReadAs name told (Ok clauses) → (text : List ℕ) × (told ≡ Some text) × SpellsFormulaClauses text clauses
+held_formula name None clauses read = never_refused read
+held_formula name (Some text) clauses read = (text, refl, read.1)
+
+verdict_is : (verdict : Verdict) (status : Status) → status ≡ verdict_status verdict → IsDecided status → verdict ≡ Verified
+unfolding verdict_status
+verdict_is Verified status e h = refl
+verdict_is (BadStep line) status e h = not_refuted status h e
+verdict_is NoEmptyClause status e h = not_refuted status h e
+
+check_true : (held : Held) (formula proof : List ℕ) (workers : ℕ) (own : List ℕ) (vars : ℕ) (clauses : List (List Literal)) (lines : List ProofLine) (status : Status) (text : List ℕ) (log : LogState)
+    → IsDecided status → held formula ≡ Some own → SpellsCnf own vars clauses → Settles (to_check clauses lines) status text log → IsPromised held (Wanted.Check formula proof workers) status text
+unfolding IsPromised Settles verdict_status verdict_text
+check_true held formula proof workers own vars clauses lines status text log decided kept spelled h =
+    let verified : verdict_of clauses lines ≡ Verified = verdict_is (verdict_of clauses lines) status h.0 decided in
+    (own, kept, vars, clauses, spelled, λ s. verified_has_no_solution clauses lines s verified, h.0 ∙ ap verdict_status verified, h.1 ∙ ap verdict_text verified)
+
 kept_for : (held : Held) (wanted : Wanted) (task : Task) (status : Status) (text : List ℕ) (log : LogState) → IsDecided status → ComesTo wanted held (Ok task) → Settles task status text log → IsPromised held wanted status text
 unfolding IsPromised
 kept_for held (Wanted.Search model params mode q outputs) task status text log decided comes h =
@@ -215,7 +241,11 @@ kept_for held (Wanted.Opb opb conflicts) task status text log decided comes h =
     let it : _ = read_ok (IsReadBy IsOpbTextReadAs held opb) (is_opb_task conflicts) task comes in
     let own : _ = held_comes opb (held opb) it.0 it.1 in
     opb_true held opb conflicts own.0 it.0 status text log own.1 own.2 (subst (λ t. Settles t status text log) (ok_is it.2) h)
-kept_for held (Wanted.Check formula proof workers) task status text log decided comes h = tt
+kept_for held (Wanted.Check formula proof workers) task status text log decided comes h =
+    let f : _ = read_ok (IsReadBy IsFormulaReadAs held formula) (λ clauses. comes_to_check proof clauses held) task comes in
+    let own : _ = held_formula formula (held formula) f.0 f.1 in
+    let p : _ = read_ok (IsReadBy IsProofReadAs held proof) (λ lines outcome. outcome ≡ Ok (to_check f.0 lines)) task f.2 in
+    check_true held formula proof workers own.0 own.2.0 f.0 p.0 status text log decided own.1 own.2.1 (subst (λ t. Settles t status text log) (ok_is p.2) h)
 kept_for held (Wanted.Generate number conflicts eprime param) task status text log decided comes h = tt
 
 -- what settles the task that words ask for is what they want, and it is as it is promised

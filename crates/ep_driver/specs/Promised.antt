@@ -1,7 +1,9 @@
 -- What a run promises of what it put out: it is true of the texts that the words name.
 --
--- Of the verdict on a proof, and of a number's own texts, nothing is said here.
-use Rattle.std.specs.Prelude.{◌≡◌, ◌⊎◌, ℕ, ℤ, List, Option, Some, None}
+-- Of a number's own texts nothing is said here.
+use Rattle.std.specs.Prelude.{◌≡◌, ◌⊎◌, ℕ, ℤ, Bool, List, Option, Some, None, codes}
+use Rattle.cnf_core.specs.Clauses.{Satisfies}
+use Rattle.cnf_core.specs.Literal.{Literal}
 use Rattle.ep_base.specs.Outside.{Held}
 use Rattle.ep_explain.specs.Explained.{Core, Explains, IsWrittenSolution, without_goal}
 use Rattle.ep_explain_text.specs.ExplanationTexts.{core_text}
@@ -16,6 +18,7 @@ use Rattle.opb_answer.specs.Lines.{answer_lines}
 use Rattle.opb_answer.specs.Right.{IsRightOpb}
 use Rattle.opb_text.specs.Contents.{OpbContent}
 use Rattle.opb_text.specs.Grammar.{SpellsOpb}
+use Rattle.sat_text.specs.CnfGrammar.{SpellsCnf}
 use Rattle.ep_driver.specs.Answers.{answer_status, listing_status, opb_status}
 use Rattle.ep_files.specs.declared.status.Status.{Status}
 use Rattle.ep_said.specs.Judgements.{judgement_text}
@@ -45,8 +48,8 @@ IsExplanation mode i conflicts status text =
     ⊎ ((status ≡ Status.Unknown) × (text ≡ answer_text (unknown conflicts)))
 
 -- What was put out is the text of an answer, or of a list of solutions, that is true of the instance which the files make; or of what
--- is told of why that has no solution, or that it has one; or it says with status 0 that the assignment of a solution text is a solution, and that is so; or it is the lines of an answer that is right
--- for the pseudo-Boolean problem that the file's text spells.
+-- is told of why that has no solution, or that it has one; or it says with status 0 that the assignment of a solution text is a solution, and that is so; or it says with status 0 that a proof is verified,
+-- and no assignment satisfies the clauses that the formula's text spells; or it is the lines of an answer that is right for the pseudo-Boolean problem that the file's text spells.
 unfoldable pub IsPromised : Held → Wanted → Status → List ℕ → Type 0
 IsPromised held (Wanted.Search model params mode (Request.One conflicts) outputs) status text =
     (i : Instance) × FilesMake held mode model params i
@@ -69,4 +72,8 @@ IsPromised held (Wanted.Verify model params mode solution_name) status text =
 IsPromised held (Wanted.Opb opb conflicts) status text =
     (opb_text : List ℕ) × (held opb ≡ Some opb_text) × (content : OpbContent) × SpellsOpb opb_text content
     × (found : OpbFound) × IsRightOpb content found × (status ≡ opb_status found) × (text ≡ answer_lines found)
+IsPromised held (Wanted.Check formula proof workers) status text =
+    (formula_text : List ℕ) × (held formula ≡ Some formula_text)
+    × (vars : ℕ) × (clauses : List (List Literal)) × SpellsCnf formula_text vars clauses
+    × ((s : ℕ → Bool) → ¬ Satisfies s clauses) × (status ≡ Status.Answered) × (text ≡ codes "$ verified\n")
 IsPromised held _ status text = Unit {0}
