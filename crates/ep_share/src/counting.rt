@@ -35,11 +35,12 @@ fn word_of(coefficient: i64) -> u64 {
     if coefficient < 0 { !size } else { size }
 }
 
-/// A number that is made of a part.
+/// A number that is made of a part: of terms that stand in a row not in a row, so that two pairs seldom have one sum.
 fn mixed(part: (i64, Term)) -> u64 {
     let coefficient = word_of(part.0).wrapping_mul(0x9e37_79b9_7f4a_7c15);
     let term = u64::from(part.1.number()).wrapping_add(1);
-    (coefficient ^ term).wrapping_mul(0xd6e8_feb8_6659_fd93)
+    let both = (coefficient ^ term).wrapping_mul(0xd6e8_feb8_6659_fd93);
+    (both ^ (both >> 32)).wrapping_mul(0xd6e8_feb8_6659_fd93)
 }
 
 /// The place of two parts in a table of this length, whichever of them comes first.
