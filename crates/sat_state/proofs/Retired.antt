@@ -10,6 +10,7 @@ use Rattle.sat_state.specs.Stored.{clause_at}
 use Rattle.sat_state.specs.Assigned.{TrailState}
 use Rattle.sat_state.specs.Watching.{no_lit, lit_at, far_at}
 use Rattle.sat_state.specs.Guards.{is_false, IsTrueBy, Guards, HasLater}
+use Rattle.sat_state.specs.View.{AreTwoOf}
 use Rattle.sat_state.specs.Joined.{AreJoined, IsAllSeen, place_in_queue, heads_of}
 use Rattle.sat_state.specs.declared.parts.Parts.{Parts}
 use Rattle.sat_state.proofs.Literals.{Contains-from_among}
@@ -87,6 +88,17 @@ first_two_apart clause ordered long same = Rattle.sat_state.proofs.Added.precede
 
 at_place : (clause : List Literal) (k : ℕ) → k < length clause → Contains clause (get_or clause k no_lit)
 at_place clause k h = (k, h, get_or_default clause k (get_or clause k no_lit) no_lit h)
+
+-- the first two literals of a clause, in a list of the same literals
+pub first_two : (clause lits : List Literal) (one other : Literal) → lits ≡ clause → IsOrdered clause → 2 ≤ length clause → one ≡ get_or lits 0 one → other ≡ get_or lits 1 other → AreTwoOf clause one other
+first_two clause lits one other same ordered long first second =
+    let one_is : one ≡ get_or clause 0 no_lit = first ∙ ap (λ (ls : List Literal). get_or ls 0 one) same ∙ get_or_default clause 0 one no_lit (omega (arith, long)) in
+    let other_is : other ≡ get_or clause 1 no_lit = second ∙ ap (λ (ls : List Literal). get_or ls 1 other) same ∙ get_or_default clause 1 other no_lit (omega (arith, long)) in
+    record {
+      one_in = subst (Contains clause) (sym one_is) (at_place clause 0 (omega (arith, long)));
+      other_in = subst (Contains clause) (sym other_is) (at_place clause 1 (omega (arith, long)));
+      two = λ equal. first_two_apart clause ordered long (sym one_is ∙ equal ∙ other_is);
+    }
 
 -- a literal that guards within a clause guards within one that has its literals
 guards_more : (trail : List Entry) (head : ℕ) (l : Literal) (few many : List Literal) → ((x : Literal) → Contains few x → Contains many x) → Guards trail head l few → Guards trail head l many

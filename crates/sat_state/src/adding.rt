@@ -8,12 +8,30 @@ ghost use Rattle.sat_state.specs.Guards.{is_false};
 ghost use Rattle.sat_state.specs.Watching.{listed_at};
 ghost use Rattle.sat_state.specs.Joined.{AreJoined, IsNotLow, HasHigh, uses};
 
-use crate::clauses::first_open;
 use crate::parts::Parts;
 use crate::short::ShortLit;
+use crate::values::Values;
 use crate::watches::code;
 use cnf_core::{Clause, Lit};
 use ep_base::Memory;
+
+// A literal of these, of another code than this one, that isn't false.
+fn first_open(assigned: &Values, lits: &[Lit], skipped: usize) -> Option<Lit>
+    ensures in_clause { IfSome result (λ l. Contains lits.now l) }
+    ensures other { IfSome result (λ l. code_of l ≢ skipped) }
+    ensures open { IfSome result (λ l. is_false (literals assigned.now.trail) l ≡ false) }
+    ensures none { IsNone result
+        → All (λ l. code_of l ≢ skipped → is_false (literals assigned.now.trail) l ≡ true) lits.now }
+{
+    for lit in lits {
+        if code(*lit) != skipped {
+            if !assigned.is_true(lit.negated()) {
+                return Some(*lit);
+            }
+        }
+    }
+    None
+}
 
 impl Parts {
     // Whether a literal is false by an entry of a level below the trail's.
@@ -116,6 +134,19 @@ impl Parts {
         }
         self.watches.grow(2 * vars as usize + 2)?;
         Ok(())
+    }
+
+    /// Tells how many clauses that will come name the literal of a code, if it is known.
+    pub fn expect(&mut self, code: usize, count: u32)
+        requires { AreJoined self.old }
+        ensures joined { AreJoined self.new }
+        ensures clauses { self.new.clauses ≡ self.old.clauses }
+        ensures assigned { self.new.assigned ≡ self.old.assigned }
+        ensures queue { self.new.queue ≡ self.old.queue }
+    {
+        if code < self.watches.lists() {
+            self.watches.expect(code, count);
+        }
     }
 
     // Makes room for a clause of these literals in the lists of all of them.

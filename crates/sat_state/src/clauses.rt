@@ -23,10 +23,9 @@ const FEW: usize = 6;
 /// So many conflicts ago is of late.
 const LATE: u32 = 300;
 
-/// Clauses by number, and beside them their literals once more, side by side, which is what propagation and learning read.
+/// Clauses by number.
 #[derive(Debug, Drop)]
 pub struct Clauses {
-    clauses: Vec<Clause>,
     rows: Rows,
     conflicts: u32,
 }
@@ -36,15 +35,13 @@ impl Model for Clauses {
 
     ghost Value = { Stored };
 
-    ghost use Rattle.sat_state.specs.StoredInside.{seen_clauses, AreClauses};
+    ghost use Rattle.sat_state.specs.StoredInside.{seen_clauses};
 
     ghost view = { seen_clauses };
-
-    ghost invariant = { AreClauses };
 }
 
 /// A literal of these, of another code than this one, that isn't false.
-pub fn first_open(assigned: &Values, lits: &[Lit], skipped: usize) -> Option<Lit>
+pub fn first_open(assigned: &Values, lits: &[ShortLit], skipped: usize) -> Option<Lit>
     ensures in_clause { IfSome result (λ l. Contains lits.now l) }
     ensures other { IfSome result (λ l. code_of l ≢ skipped) }
     ensures open { IfSome result (λ l. is_false (literals assigned.now.trail) l ≡ false) }
@@ -52,9 +49,9 @@ pub fn first_open(assigned: &Values, lits: &[Lit], skipped: usize) -> Option<Lit
         → All (λ l. code_of l ≢ skipped → is_false (literals assigned.now.trail) l ≡ true) lits.now }
 {
     for lit in lits {
-        if code(*lit) != skipped {
-            if !assigned.is_true(lit.negated()) {
-                return Some(*lit);
+        if lit.code() != skipped {
+            if !assigned.is_short_true(lit.negated()) {
+                return Some(lit.lit());
             }
         }
     }
@@ -109,7 +106,6 @@ impl Clauses {
         ensures { result.lists ≡ [] }
     {
         Clauses {
-            clauses: Vec::new(alloc),
             rows: Rows::new(alloc),
             conflicts: 0,
         }
@@ -125,7 +121,6 @@ impl Clauses {
         if clause.greatest_variable() > u64::from(u32::MAX / 2) {
             return Err(Memory);
         }
-        self.clauses.reserve(1)?;
         self.rows.reserve(clause.lits().len())?;
         Ok(())
     }
@@ -139,7 +134,6 @@ impl Clauses {
     {
         let stamp = self.new_stamp();
         self.rows.push(clause.lits(), stamp);
-        self.clauses.push_reserved(clause);
     }
 
     // The stamp of a clause that comes now.
@@ -155,15 +149,7 @@ impl Clauses {
     pub fn len(&self) -> usize
         ensures { result ≡ length self.now.lists }
     {
-        self.clauses.len()
-    }
-
-    /// The clause of this number.
-    pub fn clause(&self, number: usize) -> &Clause
-        requires { number < length self.now.lists }
-        ensures { result.now ≡ clause_at self.now.lists number }
-    {
-        &self.clauses[number]
+        self.rows.len()
     }
 
     /// The literals of the clause of this number.

@@ -76,6 +76,13 @@ impl List {
         self.watches[place] = Watch::new(watch.entry(), false, blocker);
     }
 
+    /// Tells how many more will come, so that the memory for them is of that size, where there is so much. Nothing that is seen changes.
+    pub fn expect(&mut self, count: u32)
+        ensures { self.new ≡ self.old }
+    {
+        let _ = self.watches.reserve_exact(count as usize);
+    }
+
     /// Makes room for one more.
     pub fn make_room(&mut self) -> Result<(), Memory>
         ensures watches { self.new.watches ≡ self.old.watches }

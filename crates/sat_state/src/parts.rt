@@ -128,7 +128,7 @@ impl Parts {
             ⊎ HasTwoNotFalse (literals self.new.assigned.trail) (clause_at self.new.clauses.lists number) }
         ensures falsified { result ≡ false → NamesFalsified self.new.clauses.lists self.new.assigned.trail number }
     {
-        let lits = self.clauses.clause(number).lits();
+        let lits = self.clauses.lits(number);
         let Some(one) = first_open(&self.assigned, lits, 0) else {
             return false;
         };
@@ -396,13 +396,13 @@ impl Parts {
         ensures open { HasTwoNotFalse (literals self.now.assigned.trail) (clause_at self.now.clauses.lists number)
             → (is_false (literals self.now.assigned.trail) result.0 ≡ false) × (is_false (literals self.now.assigned.trail) result.1 ≡ false) }
     {
-        let lits = self.clauses.clause(number).lits();
+        let lits = self.clauses.lits(number);
         if let Some(one) = first_open(&self.assigned, lits, 0) {
             if let Some(other) = first_open(&self.assigned, lits, code(one)) {
                 return (one, other);
             }
         }
-        (lits[0], lits[1])
+        (lits[0].lit(), lits[1].lit())
     }
 
     // Where a literal of a clause is false, another one of the clause that was true at no higher level, if there is one.

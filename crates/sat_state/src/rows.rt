@@ -107,6 +107,13 @@ impl Rows {
         });
     }
 
+    /// How many clauses there are.
+    pub fn len(&self) -> usize
+        ensures { result ≡ length self.now.lists }
+    {
+        self.rows.len()
+    }
+
     /// The literals of the clause of this number.
     pub fn lits(&self, number: usize) -> &[ShortLit]
         requires { number < length self.now.lists }

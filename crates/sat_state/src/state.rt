@@ -84,6 +84,15 @@ impl State {
         self.parts.add(clause)
     }
 
+    /// Tells how many clauses that will come name a known variable, with this sign, so that what is kept of it gets the room that it
+    /// needs and no more. Nothing that is seen changes.
+    pub fn expect(&mut self, var: u64, positive: bool, count: u32)
+        ensures { self.new ≡ self.old }
+    {
+        let code = var.saturating_mul(2).saturating_add(u64::from(!positive));
+        self.parts.expect(code as usize, count);
+    }
+
     /// Opens a level, at which a literal is made true without a reason. Takes no memory.
     pub fn decide(&mut self, lit: Lit)
         requires known { lit.var ≤ self.old.vars }
@@ -185,16 +194,7 @@ impl State {
         self.parts.assigned.trail()
     }
 
-    /// The clause of this number.
-    pub fn clause(&self, number: u64) -> &Clause
-        requires { number < length self.now.clauses }
-        ensures { result.now ≡ slice_index_or self.now.clauses number [] }
-    {
-        self.parts.clauses.clause(number as usize)
-    }
-
-    /// The literals of the clause of this number, in order. They stand beside those of the other clauses, so that reading them takes
-    /// fewer loads than [`State::clause`].
+    /// The literals of the clause of this number, in order.
     pub fn literals(&self, number: u64) -> &[ShortLit]
         requires { number < length self.now.clauses }
         ensures value { result.now ≡ slice_index_or self.now.clauses number [] }

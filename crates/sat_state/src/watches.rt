@@ -121,6 +121,26 @@ impl Watches {
         Ok(())
     }
 
+    /// Tells how many clauses that will come name the literal of a code.
+    pub fn expect(&mut self, code: usize, count: u32)
+        requires { code < self.old.lists }
+        ensures lits { self.new.lits ≡ self.old.lits }
+        ensures fars { self.new.fars ≡ self.old.fars }
+        ensures same { (code : ℕ) → listed_at self.new.stands code ≡ listed_at self.old.stands code }
+        ensures lists { self.new.lists ≡ self.old.lists }
+        ensures room { self.new.room ≡ self.old.room }
+    {
+        self.left = 0;
+        self.lists[code].expect(count);
+    }
+
+    /// How many lists there are.
+    pub fn lists(&self) -> usize
+        ensures { result ≡ self.now.lists }
+    {
+        self.lists.len()
+    }
+
     /// Makes room for one more in the list of a literal.
     pub fn make_room(&mut self, lit: Lit) -> Result<(), Memory>
         requires known { code_of lit < self.old.lists }
