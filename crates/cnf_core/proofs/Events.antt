@@ -1,14 +1,12 @@
 -- What an event at the end changes of a log, and what it leaves.
-use Rattle.std.proofs.Common.{◌≡◌, ℕ, ◌+◌, true, List, [], ◌∷◌, ◌++◌, length, map, sym, ap, subst, ◌∙◌, cond, arith, length-append, append_assoc, not, nat_eq}
+use Rattle.std.proofs.Common.{◌≡◌, ℕ, ◌+◌, true, List, [], ◌∷◌, ◌++◌, length, map, refl, sym, ap, subst, ◌∙◌, cond, arith, length-append, append_assoc, not, nat_eq}
 use Rattle.std.specs.Prelude.{All}
-use Rattle.std.specs.Global.{Vec}
-use Rattle.std.proofs.lemmas.List.{append-nil, map_push, take-append-le}
-use Rattle.std.proofs.lemmas.List.Elements.{All-push}
+use Rattle.std.proofs.lemmas.List.{append-nil, length-take, map_push, take-append-le}
+use Rattle.std.proofs.lemmas.List.Elements.{All-cons, All-nil, All-push}
 use Rattle.std.proofs.lemmas.Bool.Decides.{nat_tests}
-use Rattle.std.proofs.lemmas.List.Sums.{sum_by-append}
+use Rattle.std.proofs.lemmas.List.Sums.{sum_by-append, sum_by-cons}
 use Rattle.cnf_core.specs.Literal.{Literal, IsOrdered, IsVariable, IsClause}
-use Rattle.cnf_core.specs.Events.{LogEvent, clause_of, clauses_of, given, step, is_given, is_nonempty_step, plain_event, nonempty_steps, HasBase, EachStep, HintsAreEarlier}
-use Rattle.cnf_core.specs.declared.log.Event.{Event}
+use Rattle.cnf_core.specs.Events.{LogEvent, clause_of, clauses_of, given, step, is_given, is_nonempty_step, nonempty_steps, HasBase, EachStep, HintsAreThere, HintsAreEarlier}
 use Rattle.cnf_core.specs.declared.log.Log.TheInside.{Inside}
 use Rattle.cnf_core.specs.LogInside.{IsLog}
 
@@ -58,12 +56,44 @@ HasBase-push events e base first = record {
 }
 
 -- the same events leave what is true of a log
-pub IsLog-same : (log : Inside) (events : Vec Event) → events.items ≡ log.events.items → IsLog log → IsLog (record log { events = events })
-IsLog-same log events same is =
-    let back : map plain_event log.events.items ≡ map plain_event events.items = ap (map plain_event) (sym same) in
-    record {
-      counted = is.counted ∙ ap nonempty_steps back;
-      clauses = subst (λ (es : List LogEvent). All IsClause (clauses_of es)) back is.clauses;
-      hints = subst HintsAreEarlier back is.hints;
-      first = subst (λ (es : List LogEvent). HasBase es log.base) back is.first;
-    }
+pub IsLog-same : (log : Inside) (events : List LogEvent) → events ≡ log.events → IsLog log → IsLog (record log { events = events })
+IsLog-same log events same is = record {
+  counted = is.counted ∙ ap nonempty_steps (sym same);
+  clauses = subst (λ (es : List LogEvent). All IsClause (clauses_of es)) (sym same) is.clauses;
+  hints = subst HintsAreEarlier (sym same) is.hints;
+  first = subst (λ (es : List LogEvent). HasBase es log.base) (sym same) is.first;
+}
+
+-- ---- givens alone
+
+pub none_counted : (clauses : List (List Literal)) → nonempty_steps (map given clauses) ≡ 0
+none_counted [] = refl
+none_counted (clause ∷ clauses) = sum_by-cons (λ (x : LogEvent). cond (is_nonempty_step x) 1 0) (given clause) (map given clauses) ∙ omega (arith, none_counted clauses)
+
+pub clauses_given : (clauses : List (List Literal)) → clauses_of (map given clauses) ≡ clauses
+clauses_given [] = refl
+clauses_given (clause ∷ clauses) = ap (λ (cs : List (List Literal)). clause ∷ cs) (clauses_given clauses)
+
+pub all_are_given : (clauses : List (List Literal)) → All (λ e. is_given e ≡ true) (map given clauses)
+all_are_given [] = All-nil (λ e. is_given e ≡ true)
+all_are_given (clause ∷ clauses) = All-cons (λ e. is_given e ≡ true) (given clause) (map given clauses) refl (all_are_given clauses)
+
+module _ (P : List LogEvent → List Literal → List ℕ → Type 0) where
+  each_given : (earlier : List LogEvent) (clauses : List (List Literal)) → EachStep P earlier (map given clauses)
+  each_given earlier [] = tt
+  each_given earlier (clause ∷ clauses) = each_given (earlier ++ given clause ∷ []) clauses
+
+no_base : (events : List LogEvent) → HasBase events 0
+no_base events = record {
+  there = omega arith;
+  givens = λ k d below. absurd (omega (arith, below, length-take 0 events));
+}
+
+-- a log of givens alone, of which none is of the base
+pub IsLog-givens : (log : Inside) (clauses : List (List Literal)) → log.events ≡ map given clauses → log.steps ≡ 0 → log.base ≡ 0 → All IsClause clauses → IsLog log
+IsLog-givens log clauses events steps base are = record {
+  counted = steps ∙ sym (ap nonempty_steps events ∙ none_counted clauses);
+  clauses = subst (λ (es : List LogEvent). All IsClause (clauses_of es)) (sym events) (subst (All IsClause) (sym (clauses_given clauses)) are);
+  hints = subst HintsAreEarlier (sym events) (each_given (λ earlier clause hints. HintsAreThere earlier hints) [] clauses);
+  first = subst (HasBase log.events) (sym base) (no_base log.events);
+}

@@ -9,3 +9,4 @@ pub mod Events
 pub mod Literals
 pub mod Keeping
 pub mod Pieces
+pub mod EventLists

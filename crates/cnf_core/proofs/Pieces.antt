@@ -79,7 +79,7 @@ lists_push : {X : Type 0} (all : List X) (from : ℕ) (ends : List ℕ) (end : �
 lists_push all from [] end = refl
 lists_push {X} all from (first ∷ ends) end = ap (λ (lists : List (List X)). part_of all from first ∷ lists) (lists_push all first ends end)
 
-last_push : (from : ℕ) (ends : List ℕ) (end : ℕ) → last_end from (ends ++ end ∷ []) ≡ end
+pub last_push : (from : ℕ) (ends : List ℕ) (end : ℕ) → last_end from (ends ++ end ∷ []) ≡ end
 last_push from [] end = refl
 last_push from (first ∷ ends) end = last_push first ends end
 
@@ -92,7 +92,7 @@ list_added {X} all grown more ends end is at within whole =
     ∙ ap (λ (lists : List (List X)). lists ++ more ∷ [])
     (ap (λ (xs : List X). lists_from xs 0 ends) is ∙ lists_grown all more 0 ends (recursion_from_All (λ e. e ≤ length all) ends within))
 
-within_more : {X : Type 0} (all grown more : List X) (ends : List ℕ) → grown ≡ all ++ more → AllByRecursion (λ e. e ≤ length all) ends → AllByRecursion (λ e. e ≤ length grown) ends
+pub within_more : {X : Type 0} (all grown more : List X) (ends : List ℕ) → grown ≡ all ++ more → AllByRecursion (λ e. e ≤ length all) ends → AllByRecursion (λ e. e ≤ length grown) ends
 within_more all grown more [] is has = tt
 within_more all grown more (end ∷ ends) is has =
     let size : length grown ≡ length all + length more = ap length is ∙ length-append all more in

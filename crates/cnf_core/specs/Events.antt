@@ -1,8 +1,6 @@
 -- Logs: clauses that were given, and clauses that were added as steps, with hints.
-use Rattle.std.specs.Prelude.{◌≡◌, ℕ, ◌<◌, ◌≤◌, ℤ, Bool, true, false, List, [], ◌∷◌, ◌++◌, length, All, take, map, count_by}
+use Rattle.std.specs.Prelude.{◌≡◌, ℕ, ◌<◌, ◌≤◌, ℤ, Bool, true, false, List, [], ◌∷◌, ◌++◌, length, All, take, map, count_by, slice_index_or}
 use Rattle.cnf_core.specs.Literal.{Literal}
-use Rattle.cnf_core.specs.declared.log.Event.{Event}
-use Rattle.cnf_core.specs.declared.log.Event.TheVariants as variants
 use Rattle.cnf_core.specs.declared.log.CellNote.{CellNote}
 
 -- a clause that is given, or a step: a clause, with the positions of the earlier events that show it
@@ -22,11 +20,7 @@ pub record LogState : Type 0 where
   pub notes : List Note
   pub base : ℕ
 
--- an event and a note without where they lie in memory
-abbrev pub plain_event : Event → LogEvent
-plain_event (variants.Given clause) = given clause
-plain_event (variants.Step clause hints) = step clause hints.items
-
+-- a note without where it lies in memory
 abbrev pub plain_note : CellNote → Note
 plain_note note = record { cell = note.cell.items; value = note.value; lit = note.lit }
 
@@ -34,6 +28,10 @@ plain_note note = record { cell = note.cell.items; value = note.value; lit = not
 abbrev pub clause_of : LogEvent → List Literal
 clause_of (given clause) = clause
 clause_of (step clause hints) = clause
+
+-- the event of this number
+abbrev pub event_at : List LogEvent → ℕ → LogEvent
+event_at events place = slice_index_or events place (given [])
 
 abbrev pub clauses_of : List LogEvent → List (List Literal)
 clauses_of events = map clause_of events

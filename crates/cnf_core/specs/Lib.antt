@@ -7,6 +7,7 @@ pub mod Steps
 pub mod FormulaInside
 pub mod Pieces
 pub mod ClauseListInside
+pub mod EventListInside
 pub mod LogInside
 pub mod Codes
 pub mod Lines

@@ -120,4 +120,12 @@ impl Formula {
     {
         &self.clauses
     }
+
+    /// The clauses alone, in the order in which they were added. Moves them.
+    pub fn into_clauses(self) -> ClauseList
+        ensures value { result ≡ self.clauses }
+        ensures clauses { All IsClause result }
+    {
+        self.clauses
+    }
 }

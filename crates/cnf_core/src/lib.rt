@@ -3,6 +3,7 @@
 #![tactic(auto)]
 
 mod clause;
+mod entries;
 mod formula;
 mod laws;
 mod lists;
@@ -10,6 +11,7 @@ mod lit;
 mod log;
 
 pub use clause::Clause;
+pub use entries::EventList;
 pub use formula::Formula;
 pub use laws::{
     Condition, an_effective_step_needs_its_last_literal, keeping_composes, new_steps_are_few,
@@ -17,4 +19,4 @@ pub use laws::{
 };
 pub use lists::ClauseList;
 pub use lit::{Lit, MOST_VARIABLE};
-pub use log::{CellNote, Event, Log};
+pub use log::{CellNote, Log};

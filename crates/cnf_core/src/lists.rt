@@ -40,7 +40,7 @@ fn part(list: &[Lit], from: usize, until: usize) -> &[Lit]
 
 /// Where the list of this number begins.
 #[inline(always)]
-fn start(ends: &[usize], place: usize) -> usize
+pub(crate) fn start(ends: &[usize], place: usize) -> usize
     requires { place < length ends.now }
     ensures { result ≡ start_of 0 ends.now place }
 {

@@ -1,10 +1,12 @@
 //! Logs: clauses that were given, and steps that are said to follow from the events before them.
 
-ghost use Rattle.std.specs.Prelude.{◌≡◌, ◌+◌, ◌≤◌, ◌↔◌, ◌++◌, [], ◌∷◌, IsTrue, All, OnOk, OnErr, map};
+ghost use Rattle.std.specs.Prelude.{◌≡◌, ◌+◌, ◌≤◌, ◌↔◌, ◌++◌, [], ◌∷◌, IsTrue, All, IfOk, OnOk, OnErr, map};
 ghost use Rattle.cnf_core.specs.Literal.{IsClause};
-ghost use Rattle.cnf_core.specs.Events.{given, step, plain_event, plain_note, clauses_of, nonempty_steps, HasBase, HintsAreThere, HintsAreEarlier};
+ghost use Rattle.cnf_core.specs.Events.{given, step, plain_note, clauses_of, nonempty_steps, HasBase, HintsAreThere, HintsAreEarlier};
 
 use crate::clause::Clause;
+use crate::entries::EventList;
+use crate::lists::ClauseList;
 use crate::lit::Lit;
 use ep_base::Memory;
 use std::alloc::Global;
@@ -21,20 +23,11 @@ pub struct CellNote {
     pub lit: Lit,
 }
 
-/// An event of a log.
-#[derive(Debug, Drop)]
-pub enum Event {
-    /// A clause that is given.
-    Given(Clause),
-    /// A clause that follows, and the positions of the earlier events that show it, counted from 0.
-    Step(Clause, Vec<u64>),
-}
-
 /// Events in order, the notes that say what literals mean, and the base: how many of the first
 /// events are the problem's own.
 #[derive(Debug, Drop)]
 pub struct Log {
-    events: Vec<Event>,
+    events: EventList,
     notes: Vec<CellNote>,
     base: u64,
     steps: u64,
@@ -58,18 +51,31 @@ impl Log {
         ensures { result ≡ record { events = []; notes = []; base = 0 } }
     {
         Log {
-            events: Vec::new(alloc),
+            events: EventList::new(alloc),
             notes: Vec::new(alloc),
             base: 0,
             steps: 0,
         }
     }
 
+    /// A log of clauses as givens, without notes, with the base 0. Moves the clauses.
+    pub fn of_givens(alloc: Global, clauses: ClauseList) -> Result<Log, Memory>
+        requires { All IsClause clauses }
+        ensures { IfOk result (λ log. log ≡ record { events = map given clauses; notes = []; base = 0 }) }
+    {
+        Ok(Log {
+            events: EventList::of_givens(alloc, clauses)?,
+            notes: Vec::new(alloc),
+            base: 0,
+            steps: 0,
+        })
+    }
+
     /// Whether the log is as [`Log::new`] makes it.
     pub fn is_empty(&self) -> bool
         ensures { IsTrue result ↔ (self.now ≡ record { events = []; notes = []; base = 0 }) }
     {
-        self.events.is_empty() && self.notes.is_empty() && self.base == 0
+        self.events.len() == 0 && self.notes.is_empty() && self.base == 0
     }
 
     /// How many steps have a literal.
@@ -80,12 +86,12 @@ impl Log {
     }
 
     /// The events in order.
-    pub fn events(&self) -> &[Event]
-        ensures value { map plain_event result.now ≡ self.now.events }
+    pub fn events(&self) -> &EventList
+        ensures value { result.now ≡ self.now.events }
         ensures clauses { All IsClause (clauses_of self.now.events) }
         ensures hints { HintsAreEarlier self.now.events }
     {
-        self.events.as_slice()
+        &self.events
     }
 
     /// The notes, as they were last kept.
@@ -109,9 +115,17 @@ impl Log {
             (self.new ≡ record self.old { events = self.old.events ++ given clause ∷ [] }) }
         ensures err { OnErr result (self.new ≡ self.old) }
     {
-        // What each clause keeps, `events` promises of this one too.
-        let _lits = clause.lits();
-        self.events.push(Event::Given(clause))?;
+        self.given_ordered(clause.lits())
+    }
+
+    /// Appends a given of these literals, which are in order. After want of memory the log is unchanged.
+    pub fn given_ordered(&mut self, clause: &[Lit]) -> Result<(), Memory>
+        requires { IsClause clause.now }
+        ensures ok { OnOk result
+            (self.new ≡ record self.old { events = self.old.events ++ given clause.now ∷ [] }) }
+        ensures err { OnErr result (self.new ≡ self.old) }
+    {
+        self.events.push_given(clause)?;
         Ok(())
     }
 
@@ -122,8 +136,11 @@ impl Log {
             record self.old { events = self.old.events ++ step clause hints.items ∷ [] }) }
         ensures err { OnErr result (self.new ≡ self.old) }
     {
-        let counts = !clause.lits().is_empty();
-        self.events.push(Event::Step(clause, hints))?;
+        // Shows that there are few enough to be counted.
+        let _count = self.events.len();
+        let lits = clause.lits();
+        let counts = !lits.is_empty();
+        self.events.push_step(lits, hints.as_slice())?;
         if counts {
             self.steps += 1;
         }

@@ -1,10 +1,10 @@
 -- The givens of a log, and those that were added.
 use Rattle.std.proofs.Common.{◌≡◌, ◌<◌, ◌≤◌, ◌⊎◌, ◌+◌, ◌-◌, ◌^◌, ◌∙◌, ℕ, zero, suc, true, List, [], ◌∷◌, ◌++◌, All, Ok, Err, Result, IfOk, length, map, take, drop, get_or, slice_index_or, inl, inr, refl, sym, ap, subst, append_assoc, arith}
 use Rattle.std.proofs.Math.Seq.{drop-cons}
-use Rattle.std.proofs.lemmas.List.{append-nil, drop_all}
+use Rattle.std.proofs.lemmas.List.{append-nil, drop_all, get_or_default}
 use Rattle.std.proofs.lemmas.List.Elements.{All-cons, All-head, All-nil, All-tail}
 use Rattle.std.specs.Global.{Vec}
-use Rattle.cnf_core.specs.Events.{HasBase, LogEvent, LogState, Note, given, givens, is_given, plain_event, plain_note, step}
+use Rattle.cnf_core.specs.Events.{HasBase, LogEvent, LogState, Note, event_at, given, givens, is_given, plain_note, step}
 use Rattle.cnf_core.specs.Formula.{Cnf, NamesItsVariables}
 use Rattle.cnf_core.specs.Literal.{IsVariable, Literal, VariablesUpTo}
 use Rattle.cnf_core.specs.declared.lit.TheConstants.{MOST_VARIABLE}
@@ -14,8 +14,6 @@ use Rattle.sat_text.specs.CnfGrammar.{SpellsCnf}
 use Rattle.sat_text.specs.Writing.{IsReadableNote, SaysAgain, cnf_text}
 use Rattle.ep_outputs.specs.Outputs.{AreNotedUpTo, IsFormulaText, NotesUpTo}
 use Rattle.cnf_core.specs.declared.log.CellNote.{CellNote}
-use Rattle.cnf_core.specs.declared.log.Event.{Event}
-use Rattle.cnf_core.specs.declared.log.Event.TheVariants as variants
 
 -- ---- how many were added
 
@@ -50,27 +48,27 @@ fewer-givens (step clause hints ∷ events) = let rest = fewer-givens events in 
 -- ---- the loop that takes the givens out of events
 
 -- the givens so far, and those of the events that are left
-abbrev pub Taking : List (List Literal) → ℕ → List Event → Type 0
-Taking made k events = made ++ givens (map plain_event (drop k events)) ≡ givens (map plain_event events)
+abbrev pub Taking : List (List Literal) → ℕ → List LogEvent → Type 0
+Taking made k events = made ++ givens (drop k events) ≡ givens events
 
-next-event : (events : List Event) (k : ℕ) (x : Event) → k < length events → x ≡ get_or events k x → drop k events ≡ x ∷ drop (k + 1) events
-next-event events k x lt is = grind (arith, drop-cons)
+-- the events from a number on are the one of the number and those behind it
+next-event : (events : List LogEvent) (k : ℕ) (x : LogEvent) → k < length events → event_at events k ≡ x → drop k events ≡ x ∷ drop (k + 1) events
+next-event events k x lt is =
+    let here : x ≡ get_or events k x = sym is ∙ get_or_default events k (given []) x lt in
+    grind (arith, drop-cons)
 
-pub item-is : (events : List Event) (k : ℕ) (x y : Event) → x ≡ get_or events k x → x ≡ y → y ≡ get_or events k y
-item-is events k x y is e = subst (λ (z : Event). z ≡ get_or events k z) e is
-
-pub taking-given : (made : List (List Literal)) (k : ℕ) (events : List Event) (clause : List Literal) → Taking made k events → k < length events → variants.Given clause ≡ get_or events k (variants.Given clause) → Taking (made ++ clause ∷ []) (k + 1) events
+pub taking-given : (made : List (List Literal)) (k : ℕ) (events : List LogEvent) (clause : List Literal) → Taking made k events → k < length events → event_at events k ≡ given clause → Taking (made ++ clause ∷ []) (k + 1) events
 taking-given made k events clause h lt is =
-    append_assoc made (clause ∷ []) (givens (map plain_event (drop (k + 1) events)))
-    ∙ sym (ap (λ (es : List Event). made ++ givens (map plain_event es)) (next-event events k (variants.Given clause) lt is)) ∙ h
+    append_assoc made (clause ∷ []) (givens (drop (k + 1) events))
+    ∙ sym (ap (λ (es : List LogEvent). made ++ givens es) (next-event events k (given clause) lt is)) ∙ h
 
-pub taking-step : (made : List (List Literal)) (k : ℕ) (events : List Event) (clause : List Literal) (hints : Vec ℕ) → Taking made k events → k < length events → variants.Step clause hints ≡ get_or events k (variants.Step clause hints) → Taking made (k + 1) events
+pub taking-step : (made : List (List Literal)) (k : ℕ) (events : List LogEvent) (clause : List Literal) (hints : List ℕ) → Taking made k events → k < length events → event_at events k ≡ step clause hints → Taking made (k + 1) events
 taking-step made k events clause hints h lt is =
-    sym (ap (λ (es : List Event). made ++ givens (map plain_event es)) (next-event events k (variants.Step clause hints) lt is)) ∙ h
+    sym (ap (λ (es : List LogEvent). made ++ givens es) (next-event events k (step clause hints) lt is)) ∙ h
 
-pub taking-ends : (made : List (List Literal)) (k : ℕ) (events : List Event) → Taking made k events → length events ≤ k → made ≡ givens (map plain_event events)
+pub taking-ends : (made : List (List Literal)) (k : ℕ) (events : List LogEvent) → Taking made k events → length events ≤ k → made ≡ givens events
 taking-ends made k events h le =
-    sym (append-nil made) ∙ sym (ap (λ (es : List Event). made ++ givens (map plain_event es)) (drop_all k events le)) ∙ h
+    sym (append-nil made) ∙ sym (ap (λ (es : List LogEvent). made ++ givens es) (drop_all k events le)) ∙ h
 
 -- ---- the greatest variable
 

@@ -1,14 +1,14 @@
 //! The text of what was given to the solver.
 
 ghost use Rattle.std.specs.Prelude.{◌≡◌, ◌<◌, ◌≤◌, ◌^◌, ℕ, All, IfOk, length, map};
-ghost use Rattle.cnf_core.specs.Events.{givens, plain_event};
+ghost use Rattle.cnf_core.specs.Events.{givens};
 ghost use Rattle.cnf_core.specs.Literal.{VariablesUpTo};
 ghost use Rattle.cnf_core.specs.declared.lit.TheConstants.{MOST_VARIABLE};
 ghost use Rattle.ep_solve.specs.Logged.{added_clauses};
 ghost use Rattle.sat_text.specs.Writing.{IsReadableNote};
 ghost use Rattle.ep_outputs.specs.Outputs.{AreNotedUpTo, IsFormulaText};
 
-use cnf_core::{CellNote, Clause, Event, Formula, Log};
+use cnf_core::{CellNote, Clause, EventList, Formula, Log};
 use ep_base::Memory;
 use sat_text::write_cnf;
 use std::alloc::Global;
@@ -33,19 +33,20 @@ fn added_number(log: &Log, clauses: &[Clause]) -> u64
     ensures value { result ≡ length (added_clauses log.now) }
     ensures short { result < 10 ^ 18 }
 {
-    let _events = log.events();
+    // Shows how many events there can be.
+    let _count = log.events().len();
     clauses.len() as u64 - log.base()
 }
 
 /// The clauses that were given.
-fn given_clauses(alloc: Global, events: &[Event]) -> Result<Vec<Clause>, Memory>
-    ensures { IfOk result (λ clauses. clauses.items ≡ givens (map plain_event events.now)) }
+fn given_clauses(alloc: Global, events: &EventList) -> Result<Vec<Clause>, Memory>
+    ensures { IfOk result (λ clauses. clauses.items ≡ givens events.now) }
 {
     let mut clauses = Vec::new(alloc);
-    for event in events {
-        match event {
-            Event::Given(clause) => clauses.push(clause.copied()?)?,
-            Event::Step(_, _) => {}
+    for place in 0..events.len() {
+        match events.hints(place) {
+            Some(_) => continue,
+            None => clauses.push(Clause::from_ordered(alloc, events.clause(place))?)?,
         }
     }
     Ok(clauses)

@@ -12,22 +12,20 @@ ghost use Rattle.ep_tree.specs.declared.values.Mode.{Mode};
 ghost use Rattle.ep_unroll.specs.Cells.{instance_cells};
 ghost use Rattle.sat_search.specs.Logs.{IsSound};
 
-use cnf_core::{Clause, ClauseList, Log};
+use cnf_core::{Formula, Log};
 use ep_answer::Problem;
 use ep_base::Memory;
 use ep_formula::Encoded;
 use sat_search::Solver;
 use std::alloc::Global;
 
-/// Appends these clauses to an empty log as givens.
-fn give_all(alloc: Global, log: &mut Log, clauses: &ClauseList) -> Result<(), Memory>
+/// Moves the clauses of a formula into an empty log, as its givens.
+fn give_all(alloc: Global, log: &mut Log, formula: Formula) -> Result<(), Memory>
     requires { log.old ≡ empty_log }
-    ensures all { OnOk result (log.new ≡ record { events = map given clauses.now; notes = []; base = 0 }) }
+    ensures all { OnOk result (log.new ≡ record { events = map given formula.clauses; notes = []; base = 0 }) }
     ensures givens { All (λ e. is_given e ≡ true) log.new.events }
 {
-    for place in 0..clauses.len() {
-        log.given(Clause::from_ordered(alloc, clauses.clause(place))?)?;
-    }
+    *log = Log::of_givens(alloc, formula.into_clauses())?;
     Ok(())
 }
 
@@ -42,7 +40,7 @@ pub fn posed(alloc: Global, encoded: Encoded, log: &mut Log) -> Result<Problem, 
         → encoded.cells.items ≡ instance_cells i → Poses mode i (plain_problem problem) log.new) }
     ensures sound { IsSound log.new.events }
 {
-    give_all(alloc, log, encoded.formula.clauses())?;
+    give_all(alloc, log, encoded.formula)?;
     let notes = encoded.layout.notes(alloc, &encoded.cells, &encoded.map)?;
     let base = log.events().len() as u64;
     log.mark(notes, base);

@@ -11,7 +11,7 @@ ghost use Rattle.opb_text.specs.Weights.{AreVariablesOf, IsProblemWithinReach};
 ghost use Rattle.sat_search.specs.Logs.{IsSound};
 ghost use Rattle.sat_text.specs.Writing.{IsReadableNote};
 
-use cnf_core::{Clause, ClauseList, Log};
+use cnf_core::{Formula, Log};
 use enc_all::encode;
 use ep_answer::Problem;
 use ep_base::{Key, Memory, Name, Runs, Sense};
@@ -33,7 +33,7 @@ pub fn posed(alloc: Global, opb: &Opb, vars: &[u64], log: &mut Log) -> Result<Pr
 {
     let (flat, goal) = flat_of(alloc, opb)?;
     let (formula, layout) = encode(alloc, &flat)?;
-    give_all(alloc, log, formula.clauses())?;
+    give_all(alloc, log, formula)?;
     let cells = cells_of(alloc, vars, &flat.vars)?;
     let map = map_to(alloc, vars.len() as u64, goal)?;
     let notes = layout.notes(alloc, &cells, &map)?;
@@ -48,15 +48,13 @@ pub fn posed(alloc: Global, opb: &Opb, vars: &[u64], log: &mut Log) -> Result<Pr
     })
 }
 
-/// Appends these clauses to an empty log as givens.
-fn give_all(alloc: Global, log: &mut Log, clauses: &ClauseList) -> Result<(), Memory>
+/// Moves the clauses of a formula into an empty log, as its givens.
+fn give_all(alloc: Global, log: &mut Log, formula: Formula) -> Result<(), Memory>
     requires { log.old ≡ record { events = []; notes = []; base = 0 } }
-    ensures all { OnOk result (log.new ≡ record { events = map given clauses.now; notes = []; base = 0 }) }
+    ensures all { OnOk result (log.new ≡ record { events = map given formula.clauses; notes = []; base = 0 }) }
     ensures givens { All (λ e. is_given e ≡ true) log.new.events }
 {
-    for place in 0..clauses.len() {
-        log.given(Clause::from_ordered(alloc, clauses.clause(place))?)?;
-    }
+    *log = Log::of_givens(alloc, formula.into_clauses())?;
     Ok(())
 }
 

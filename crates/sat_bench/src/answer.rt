@@ -2,7 +2,7 @@
 
 use crate::posing::{pose, read_formula};
 use crate::refusal::Refusal;
-use crate::texts::{Reply, reply_to};
+use crate::texts::{Reply, last_valued, reply_to};
 use crate::words::read_request;
 use cnf_core::Log;
 use ep_base::{FileError, Files, Word};
@@ -17,12 +17,13 @@ use std::alloc::Global;
 pub fn answer<F: Files>(alloc: Global, words: &[Word], files: &mut F) -> Result<Reply, Refusal> {
     let asked = read_request(words)?;
     let formula = read_formula(alloc, files, asked.file)?;
-    let (mut solver, mut log) = pose(alloc, &formula)?;
+    let vars = last_valued(&formula);
+    let (mut solver, mut log) = pose(alloc, formula)?;
     let outcome = solver.solve(asked.conflicts, &mut log)?;
     if let Some(name) = asked.log {
         keep_log(alloc, files, name, &log)?;
     }
-    reply_to(alloc, outcome, &solver, &formula, log.steps())
+    reply_to(alloc, outcome, &solver, vars, log.steps())
 }
 
 /// Writes a log to a file as LRAT.

@@ -1,11 +1,11 @@
 //! A formula as a problem for the solver.
 
-ghost use Rattle.std.specs.Prelude.{◌≡◌, false, IfOk};
-ghost use Rattle.cnf_core.specs.Events.{clauses_of, nonempty_steps};
+ghost use Rattle.std.specs.Prelude.{◌≡◌, true, false, All, IfOk};
+ghost use Rattle.cnf_core.specs.Events.{clauses_of, is_given, nonempty_steps};
 ghost use Rattle.sat_search.specs.Logs.{IsSound};
 
 use crate::refusal::Refusal;
-use cnf_core::{Clause, Formula, Log};
+use cnf_core::{Formula, Log};
 use ep_base::{FileError, Files, Memory};
 use sat_search::Solver;
 use sat_text::{MOST_BYTES, read_cnf};
@@ -24,21 +24,16 @@ pub fn read_formula<F: Files>(
     }
 }
 
-/// A solver of the clauses of a formula, and its log, in which they are the givens.
+/// A solver of the clauses of a formula, and its log, in which they are the givens and to which they are moved.
 ///
 /// A clause that has a literal and its negation is given too, so that the steps of the log find each clause under its number.
-pub fn pose(alloc: Global, formula: &Formula) -> Result<(Solver, Log), Refusal>
+pub fn pose(alloc: Global, formula: Formula) -> Result<(Solver, Log), Refusal>
     ensures sound { IfOk result (λ posed. IsSound posed.1.events) }
     ensures clauses { IfOk result (λ posed. posed.0.broken ≡ false → posed.0.clauses ≡ clauses_of posed.1.events) }
     ensures steps { IfOk result (λ posed. nonempty_steps posed.1.events ≡ 0) }
-    ensures same { IfOk result (λ posed. clauses_of posed.1.events ≡ formula.now.clauses) }
+    ensures same { IfOk result (λ posed. clauses_of posed.1.events ≡ formula.clauses) }
 {
-    let mut log = Log::new(alloc);
-    let mut solver = Solver::new(alloc, &log)?;
-    let givens = formula.clauses();
-    for place in 0..givens.len() {
-        let clause = Clause::from_ordered(alloc, givens.clause(place))?;
-        solver.add_given(clause, &mut log)?;
-    }
+    let log = Log::of_givens(alloc, formula.into_clauses())?;
+    let solver = Solver::new(alloc, &log)?;
     Ok((solver, log))
 }

@@ -22,12 +22,12 @@ pub struct Reply {
     pub status: u8,
 }
 
-/// The reply to an outcome, with the values of the model where there is one.
+/// The reply to an outcome, with the values that the model gives the variables up to this one where there is a model.
 pub fn reply_to(
     alloc: Global,
     outcome: Outcome,
     solver: &Solver,
-    formula: &Formula,
+    vars: u64,
     conflicts: u64,
 ) -> Result<Reply, Refusal>
     requires { outcome ≡ Outcome.Sat → IsSome solver.now.kept }
@@ -38,7 +38,7 @@ pub fn reply_to(
     let text = format!(in alloc; "c conflicts {conflicts}\n")?;
     match outcome {
         Outcome::Sat => Ok(Reply {
-            text: with_model(text, solver, last_valued(formula))?,
+            text: with_model(text, solver, vars)?,
             status: 10,
         }),
         Outcome::Unsat => Ok(Reply {
@@ -54,7 +54,7 @@ pub fn reply_to(
 
 /// The last variable of which a model gives the value: that of the formula, or where it has too many, as a short text can say, the
 /// last one that a clause names. Those over that one may have any value.
-fn last_valued(formula: &Formula) -> u64 {
+pub fn last_valued(formula: &Formula) -> u64 {
     let vars = formula.vars();
     if vars <= MOST_VALUES {
         vars

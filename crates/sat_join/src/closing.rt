@@ -6,7 +6,7 @@ ghost use Rattle.sat_search.specs.Logs.{EndsWithEmptyStep};
 ghost use Rattle.sat_join.specs.Joins.{Divides, IsClosing, IsLogOfClauses, RefutesCubes, KeepsNew};
 
 use crate::joining::refute;
-use cnf_core::{Clause, Event, Formula, Log};
+use cnf_core::{Clause, Formula, Log};
 use ep_base::Memory;
 use sat_split::cube_literals;
 use std::alloc::Global;
@@ -36,10 +36,9 @@ fn halved(alloc: Global, joined: &mut Log, vars: &[u64], ends: &[u64]) -> Result
 fn is_closed(joined: &Log) -> bool
     ensures { IsTrue result → EndsWithEmptyStep joined.now.events }
 {
-    match joined.events().last() {
-        Some(Event::Step(clause, _)) => clause.lits().is_empty(),
-        _ => false,
-    }
+    let events = joined.events();
+    let count = events.len();
+    count > 0 && events.hints(count - 1).is_some() && events.clause(count - 1).is_empty()
 }
 
 /// Ends a log in which all cubes are joined with the empty step.

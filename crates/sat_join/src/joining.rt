@@ -6,7 +6,7 @@ ghost use Rattle.cnf_core.specs.Steps.{NonEmptyStepsAreEffective};
 ghost use Rattle.sat_join.specs.Joins.{CanJoin, RefutesCubes, KeepsNew, Refutes};
 
 use crate::places::{find_false, places_of, refutation, widened};
-use cnf_core::{Event, Formula, Lit, Log};
+use cnf_core::{Formula, Lit, Log};
 use ep_base::Memory;
 use sat_split::cube_literals;
 use std::alloc::Global;
@@ -55,13 +55,14 @@ pub fn join_cube(
     let givens = formula.clauses();
     let literals = cube_literals(alloc, ends.len() as u64, vars)?;
     let first = joined.events().len() as u64;
-    let (_, steps) = refuted.events().split_at(givens.len() + literals.len());
-    for event in steps {
-        let Event::Step(clause, hints) = event else {
+    let events = refuted.events();
+    for place in givens.len() + literals.len()..events.len() {
+        let Some(hints) = events.hints(place) else {
             unreachable!()
         };
         let places = places_of(alloc, givens, &literals, first, hints)?;
-        if clause.lits().is_empty() {
+        let clause = events.clause(place);
+        if clause.is_empty() {
             ends.push(refute(alloc, joined, &literals, places)?)?;
             return Ok(());
         }

@@ -3,12 +3,12 @@
 ghost use Rattle.std.specs.Prelude.{◌≡◌, ℕ, ◌+◌, ◌^◌, ◌<◌, ◌++◌, All, IfOk, IfSome, IfNone, length, map};
 ghost use Rattle.std.specs.List.{list_any, list_all};
 ghost use Rattle.cnf_core.specs.Literal.{negation, is_among, same_literal, HaveSameLiterals, IsClause};
-ghost use Rattle.cnf_core.specs.Events.{clause_of, clauses_of, plain_event};
+ghost use Rattle.cnf_core.specs.Events.{clauses_of};
 ghost use Rattle.cnf_core.specs.Reading.{is_false};
 ghost use Rattle.sat_split.specs.Cubes.{IsFalseIn};
 ghost use Rattle.sat_join.specs.Joins.{ArePlaces, IsPlace, IsRefutedAt, IsWidened};
 
-use cnf_core::{Clause, ClauseList, Event, Lit};
+use cnf_core::{Clause, ClauseList, EventList, Lit};
 use ep_base::Memory;
 use std::alloc::Global;
 
@@ -84,13 +84,12 @@ fn negated(alloc: Global, literals: &[Lit]) -> Result<Vec<Lit>, Memory>
 }
 
 /// A clause with the negations of the cube's literals.
-pub(crate) fn widened(alloc: Global, clause: &Clause, literals: &[Lit]) -> Result<Clause, Memory>
+pub(crate) fn widened(alloc: Global, clause: &[Lit], literals: &[Lit]) -> Result<Clause, Memory>
     ensures same { IfOk result (λ wide. IsWidened literals.now clause.now wide) }
     ensures clause { IfOk result (λ wide. IsClause wide) }
 {
     let mut all = negated(alloc, literals)?;
-    let lits = clause.lits();
-    for lit in lits {
+    for lit in clause {
         all.push(*lit)?;
     }
     Clause::new(alloc, all)
@@ -105,33 +104,20 @@ pub(crate) fn refutation(alloc: Global, literals: &[Lit]) -> Result<Clause, Memo
     Clause::new(alloc, all)
 }
 
-// The clause of an event.
-fn clause_in(event: &Event) -> &Clause
-    ensures { result.now ≡ clause_of (plain_event event.now) }
-{
-    match event {
-        Event::Given(clause) => clause,
-        Event::Step(clause, _) => clause,
-    }
-}
-
 // Whether each literal of a clause is false where these are true.
-fn is_false_in(literals: &[Lit], clause: &Clause) -> bool
+fn is_false_in(literals: &[Lit], clause: &[Lit]) -> bool
     ensures { result ≡ list_all (is_false literals.now) clause.now }
 {
-    clause
-        .lits()
-        .iter()
-        .all(|lit| is_among(literals, &lit.negated()))
+    clause.iter().all(|lit| is_among(literals, &lit.negated()))
 }
 
 /// The first event each of whose literals is false where these are true.
-pub(crate) fn find_false(events: &[Event], literals: &[Lit]) -> Option<u64>
-    ensures found { IfSome result (λ place. IsRefutedAt (map plain_event events.now) literals.now place) }
-    ensures none { IfNone result (All (λ other. IsFalseIn literals.now other → ⊥) (clauses_of (map plain_event events.now))) }
+pub(crate) fn find_false(events: &EventList, literals: &[Lit]) -> Option<u64>
+    ensures found { IfSome result (λ place. IsRefutedAt events.now literals.now place) }
+    ensures none { IfNone result (All (λ other. IsFalseIn literals.now other → ⊥) (clauses_of events.now)) }
 {
-    for (place, event) in events.iter().enumerate() {
-        if is_false_in(literals, clause_in(event)) {
+    for place in 0..events.len() {
+        if is_false_in(literals, events.clause(place)) {
             return Some(place as u64);
         }
     }

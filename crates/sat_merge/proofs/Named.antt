@@ -5,8 +5,7 @@ use Rattle.std.proofs.lemmas.List.{append-nil, get_or-map, length-map, map-appen
 use Rattle.std.proofs.lemmas.List.Elements.{All-append, All-contains, All-cons, All-get_or, All-map, All-nil}
 use Rattle.cnf_core.specs.Literal.{Literal, IsClause, VariablesUpTo}
 use Rattle.cnf_core.specs.Formula.{Cnf, NamesItsVariables}
-use Rattle.cnf_core.specs.Events.{LogEvent, LogState, given, is_given, clause_of, clauses_of, plain_event}
-use Rattle.cnf_core.specs.declared.log.Event.{Event}
+use Rattle.cnf_core.specs.Events.{LogEvent, LogState, given, is_given, clause_of, clauses_of, event_at}
 use Rattle.cnf_core.proofs.Members.{All-from_contains}
 use Rattle.sat_search.proofs.Continued.{sound_givens}
 use Rattle.sat_split.specs.Cubes.{IsNamed, all_given, cube_literals, cube_log, unit_of}
@@ -77,14 +76,11 @@ joint_none clauses vars log are is =
     })
 
 -- the clause of an event names no other variables than those of all
-pub event_named : (most : ℕ) (events : List Event) (all : List LogEvent) (k : ℕ) (e : Event) (clause : List Literal) → map plain_event events ≡ all → All (VariablesUpTo most) (clauses_of all) → k < length events → e ≡ get_or events k e
-    → clause ≡ clause_of (plain_event e) → VariablesUpTo most clause
-event_named most events all k e clause are named below is same =
-    let long : k < length (map plain_event events) = omega (arith, below, length-map events plain_event) in
-    let here : get_or (clauses_of (map plain_event events)) k [] ≡ clause = get_or-map clause_of (map plain_event events) k (plain_event e) [] long ∙ ap clause_of (get_or-map plain_event events k e (plain_event e) below ∙ ap plain_event (sym is)) ∙ sym same in
+pub event_named : (most : ℕ) (all : List LogEvent) (k : ℕ) (clause : List Literal) → All (VariablesUpTo most) (clauses_of all) → k < length all → clause ≡ clause_of (event_at all k) → VariablesUpTo most clause
+event_named most all k clause named below same =
+    let here : get_or (clauses_of all) k [] ≡ clause = get_or-map clause_of all k (given []) [] below ∙ sym same in
     subst (VariablesUpTo most) here
-    (All-get_or (VariablesUpTo most) (clauses_of (map plain_event events)) k [] (omega (arith, long, length-map (map plain_event events) clause_of))
-    (subst (λ (es : List LogEvent). All (VariablesUpTo most) (clauses_of es)) (sym are) named))
+    (All-get_or (VariablesUpTo most) (clauses_of all) k [] (omega (arith, below, length-map all clause_of)) named)
 
 -- the log with which the search of a cube begins
 pub begun_as : (clauses : List (List Literal)) (vars : List ℕ) (cube number : ℕ) (literals lent : List Literal) (begun : LogState) → number ≡ cube → literals ≡ cube_literals number vars → lent ≡ literals → begun ≡ cube_log clauses lent → begun ≡ cube_log clauses (cube_literals cube vars)

@@ -1,23 +1,13 @@
 //! The formula with which a cube's log begins.
 
 ghost use Rattle.std.specs.Prelude.{◌≡◌, ◌≤◌, All, IfOk};
-ghost use Rattle.cnf_core.specs.Events.{clause_of, clauses_of, plain_event};
+ghost use Rattle.cnf_core.specs.Events.{clauses_of};
 ghost use Rattle.cnf_core.specs.Literal.{VariablesUpTo};
 ghost use Rattle.cnf_core.specs.declared.lit.TheConstants.{MOST_VARIABLE};
 
-use cnf_core::{Clause, Event, Formula, Log};
+use cnf_core::{Formula, Log};
 use ep_base::Memory;
 use std::alloc::Global;
-
-/// The clause of an event.
-fn clause_in(event: &Event) -> &Clause
-    ensures { result.now ≡ clause_of (plain_event event.now) }
-{
-    match event {
-        Event::Given(clause) => clause,
-        Event::Step(clause, _) => clause,
-    }
-}
 
 /// The formula of a log's clauses, over so many variables.
 pub fn formula_of(alloc: Global, vars: u64, log: &Log) -> Result<Formula, Memory>
@@ -27,8 +17,8 @@ pub fn formula_of(alloc: Global, vars: u64, log: &Log) -> Result<Formula, Memory
 {
     let mut own = Formula::with_vars(alloc, vars);
     let events = log.events();
-    for event in events {
-        own.add(clause_in(event).copied()?)?;
+    for place in 0..events.len() {
+        own.add_ordered(events.clause(place))?;
     }
     Ok(own)
 }

@@ -8,3 +8,4 @@ pub mod Counting
 pub mod GoingBack
 pub mod Known
 pub mod Missed
+pub mod Taken

@@ -1,14 +1,14 @@
 //! Clauses that come into a state, with the number of variables that goes with them.
 
-ghost use Rattle.std.specs.Prelude.{◌≡◌, ◌⊎◌, ℕ, ◌≤◌, ◌∷◌, ◌++◌, [], All, IfOk, OnOk, OnErr, map};
+ghost use Rattle.std.specs.Prelude.{◌≡◌, ◌⊎◌, ℕ, ◌≤◌, ◌∷◌, ◌++◌, [], All, IfOk, OnOk, OnErr};
 ghost use Rattle.cnf_core.specs.Literal.{VariablesUpTo};
-ghost use Rattle.cnf_core.specs.Events.{given, clause_of, clauses_of, plain_event};
+ghost use Rattle.cnf_core.specs.Events.{given, clauses_of};
 ghost use Rattle.sat_state.specs.Trail.{level_of, IsOpenBelow};
 ghost use Rattle.sat_search.specs.Analysis.{IsKnown, AreInRange};
 
 use crate::levels::{go_back, second_level};
 use crate::search::Tools;
-use cnf_core::{Clause, Event, Log, MOST_VARIABLE};
+use cnf_core::{Clause, EventList, Log, MOST_VARIABLE};
 use ep_base::Memory;
 use sat_state::State;
 use std::alloc::Global;
@@ -43,29 +43,76 @@ pub fn add(state: &mut State, vars: u64, clause: Clause) -> Result<u64, Memory>
     Ok(most)
 }
 
-// The clause of an event.
-fn clause_in(event: &Event) -> &Clause
-    ensures { result.now ≡ clause_of (plain_event event.now) }
-{
-    match event {
-        Event::Given(clause) => clause,
-        Event::Step(clause, _) => clause,
-    }
-}
-
 // Appends the clauses of events, and answers the number of variables then.
-fn add_events(state: &mut State, vars: u64, events: &[Event]) -> Result<u64, Memory>
+fn add_events(
+    alloc: Global,
+    state: &mut State,
+    vars: u64,
+    events: &EventList,
+) -> Result<u64, Memory>
     requires known { IsKnown vars state.old }
     requires level { level_of state.old.trail ≡ 0 }
     requires clauses { state.old.clauses ≡ [] }
     ensures known { IfOk result (λ now. IsKnown now state.new) }
-    ensures clauses { OnOk result (state.new.clauses ≡ clauses_of (map plain_event events.now)) }
+    ensures clauses { OnOk result (state.new.clauses ≡ clauses_of events.now) }
 {
     let mut most = vars;
-    for event in events {
-        most = add(state, most, clause_in(event).copied()?)?;
+    for place in 0..events.len() {
+        let clause = Clause::from_ordered(alloc, events.clause(place))?;
+        most = add(state, most, clause)?;
     }
     Ok(most)
+}
+
+// The greatest variable of the clauses of events, or 0.
+fn most_named(events: &EventList) -> u64
+    ensures { result ≤ MOST_VARIABLE }
+{
+    let mut most = 0;
+    for place in 0..events.len() {
+        if let Some(last) = events.clause(place).last() {
+            most = most.max(last.var());
+        }
+    }
+    most
+}
+
+// Counts the clauses of events that name a variable with this sign.
+fn counts(
+    alloc: Global,
+    vars: u64,
+    positive: bool,
+    events: &EventList,
+) -> Result<Vec<u32>, Memory> {
+    let mut counts = Vec::new(alloc);
+    counts.resize(vars.saturating_add(1) as usize, 0u32)?;
+    for place in 0..events.len() {
+        for lit in events.clause(place) {
+            if lit.positive() == positive {
+                if let Some(count) = counts.get_mut(lit.var() as usize) {
+                    *count = count.saturating_add(1);
+                }
+            }
+        }
+    }
+    Ok(counts)
+}
+
+// Tells the state how many clauses of events name each variable with this sign.
+fn expect(
+    alloc: Global,
+    state: &mut State,
+    vars: u64,
+    positive: bool,
+    events: &EventList,
+) -> Result<(), Memory>
+    ensures { state.new ≡ state.old }
+{
+    let counts = counts(alloc, vars, positive, events)?;
+    for (var, count) in counts.iter().enumerate() {
+        state.expect(var as u64, positive, *count);
+    }
+    Ok(())
 }
 
 /// A state of the clauses of a log, with the number of their variables.
@@ -73,8 +120,12 @@ pub fn state_of(alloc: Global, log: &Log) -> Result<(State, u64), Memory>
     ensures known { IfOk result (λ made. IsKnown made.1 made.0) }
     ensures clauses { IfOk result (λ made. made.0.clauses ≡ clauses_of log.now.events) }
 {
-    let mut state = State::new(alloc, &[], 0)?;
-    let vars = add_events(&mut state, 0, log.events())?;
+    let events = log.events();
+    let vars = most_named(events);
+    let mut state = State::new(alloc, &[], vars)?;
+    expect(alloc, &mut state, vars, true, events)?;
+    expect(alloc, &mut state, vars, false, events)?;
+    let vars = add_events(alloc, &mut state, vars, events)?;
     Ok((state, vars))
 }
 

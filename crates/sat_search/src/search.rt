@@ -13,7 +13,7 @@ use crate::order::Order;
 use crate::outcome::Outcome;
 use crate::recent::Recent;
 use crate::restarts::Restarts;
-use cnf_core::{Clause, Event, Lit, Log};
+use cnf_core::{Clause, Lit, Log};
 use ep_base::Memory;
 use sat_state::{Propagated, State};
 use std::alloc::Global;
@@ -174,6 +174,15 @@ fn touch(state: &mut State, hints: &[u64])
     }
 }
 
+// The hints of the last step, or none where a given is last.
+fn last_hints(log: &Log) -> &[u64] {
+    let events = log.events();
+    if events.len() == 0 {
+        return &[];
+    }
+    events.hints(events.len() - 1).unwrap_or(&[])
+}
+
 // Lets the state look no more at clauses that the last one makes needless, where the search goes on beside values that were found:
 // those that show it, and those that came before it.
 fn retire_needless(state: &mut State, tools: &mut Tools, log: &Log)
@@ -183,10 +192,9 @@ fn retire_needless(state: &mut State, tools: &mut Tools, log: &Log)
         return;
     }
     let number = (log.events().len() as u64).saturating_sub(1);
-    if let Some(Event::Step(_, hints)) = log.events().last() {
-        for hint in hints {
-            state.retire(*hint, number);
-        }
+    let hints = last_hints(log);
+    for hint in hints {
+        state.retire(*hint, number);
     }
     tools.recent.retire_before(state, number);
 }

@@ -3,7 +3,7 @@
 use crate::numbers::{clause_of, push_clause};
 use crate::texts::{add, push_line};
 use cnf_core::{
-    CellNote, Clause, ClauseList, Condition, Event, Formula, Lit, Log,
+    CellNote, Clause, ClauseList, Condition, EventList, Formula, Lit, Log,
     an_effective_step_needs_its_last_literal, keeping_composes, new_steps_are_few,
     no_step_is_effective_after_a_conflict, valid_steps_follow,
 };
@@ -77,9 +77,13 @@ fn counts(alloc: Global, log: &Log) -> Result<String, Fail> {
 
 /// How many literals and hints the last event has, where it is a step.
 fn last_step(log: &Log) -> Option<(usize, usize)> {
-    match log.events().last() {
-        Some(Event::Step(last, hints)) => Some((last.lits().len(), hints.len())),
-        _ => None,
+    let events = log.events();
+    let Some(last) = events.len().checked_sub(1) else {
+        return None;
+    };
+    match events.hints(last) {
+        Some(hints) => Some((events.clause(last).len(), hints.len())),
+        None => None,
     }
 }
 
@@ -109,6 +113,19 @@ fn log_said(rt: &impl Abort, alloc: Global) -> Result<String, Fail> {
     assert!(rt; Log::new(alloc).is_empty() && !log.is_empty());
     assert!(rt; last_step(&log) == Some((0, 3)));
     Ok(format!(in alloc; "{before}, {behind}")?)
+}
+
+/// What is counted of a log into which the clauses of a formula are moved, and its clauses.
+fn moved_said(alloc: Global) -> Result<String, Fail> {
+    let mut formula = Formula::with_vars(alloc, 2);
+    add(alloc, &mut formula, "1 -2")?;
+    let log = Log::of_givens(alloc, formula.into_clauses())?;
+    let mut whole = counts(alloc, &log)?;
+    let events = log.events();
+    for place in 0..events.len() {
+        push_clause(alloc, &mut whole, events.clause(place))?;
+    }
+    Ok(whole)
 }
 
 /// The lines of a proof.
@@ -164,6 +181,7 @@ fn each_call_gives_what_it_says(rt: HostRuntime) -> Result<(), Fail> {
     same(&rt, clause_said(alloc, "")?, "0:");
     same(&rt, formula_said(alloc)?, "1 2, 2 3, 7 0");
     same(&rt, log_said(&rt, alloc)?, "4 0 1 1, 6 1 1 1");
+    same(&rt, moved_said(alloc)?, "1 0 0 0 1 -2");
     same(&rt, proof_said(alloc)?, "5: 1; 1 2.d 1 2.7:; 5.");
     same(&rt, list_said(alloc)?, " 1 -2;; -1 2;");
     same(&rt, ordered_said(alloc)?, " -1 2");
@@ -196,7 +214,7 @@ fn the_laws_can_be_called() {
     is_send_and_sync::<Clause>();
     is_send_and_sync::<Formula>();
     is_send_and_sync::<CellNote>();
-    is_send_and_sync::<Event>();
+    is_send_and_sync::<EventList>();
     is_send_and_sync::<Log>();
     is_send_and_sync::<Line>();
     is_send_and_sync::<Proof>();

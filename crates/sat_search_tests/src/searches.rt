@@ -5,7 +5,7 @@ ghost use Rattle.cnf_core.specs.Events.{clauses_of};
 ghost use Rattle.sat_search.specs.Logs.{IsSound};
 
 use crate::numbers::{clause, lists_of};
-use cnf_core::{Clause, Event, Lit, Log};
+use cnf_core::{EventList, Lit, Log};
 use sat_problems::{drawn, hinted_square, pigeons, square_of_hints};
 use sat_search::{Outcome, SolveError, Solver};
 use std::alloc::{AllocError, Global};
@@ -26,20 +26,17 @@ fn pose(alloc: Global, clauses: &[Vec<i64>]) -> Result<(Solver, Log), Fail>
 
 // Whether the last event is the empty step.
 fn is_closed(log: &Log) -> bool {
-    match log.events().last() {
-        Some(Event::Step(clause, _)) => clause.lits().is_empty(),
-        _ => false,
+    let events = log.events();
+    match events.len().checked_sub(1) {
+        Some(last) => events.hints(last).is_some() && events.clause(last).is_empty(),
+        None => false,
     }
 }
 
-// The literals of an event's clause that aren't false.
-fn not_false(alloc: Global, event: &Event, trues: &[Lit]) -> Result<Vec<Lit>, AllocError> {
-    let clause = match event {
-        Event::Given(clause) => clause,
-        Event::Step(clause, _) => clause,
-    };
+// The literals of a clause that aren't false.
+fn not_false(alloc: Global, clause: &[Lit], trues: &[Lit]) -> Result<Vec<Lit>, AllocError> {
     let mut found = Vec::new(alloc);
-    for lit in clause.lits() {
+    for lit in clause {
         if !trues.contains(&lit.negated()) {
             found.push(*lit)?;
         }
@@ -50,20 +47,21 @@ fn not_false(alloc: Global, event: &Event, trues: &[Lit]) -> Result<Vec<Lit>, Al
 // Whether each hint of a step gives a literal in its turn, and the last one is falsified.
 fn is_strict(
     alloc: Global,
-    events: &[Event],
-    clause: &Clause,
+    events: &EventList,
+    clause: &[Lit],
     hints: &[u64],
 ) -> Result<bool, AllocError> {
     let mut trues = Vec::new(alloc);
-    for lit in clause.lits() {
+    for lit in clause {
         trues.push(lit.negated())?;
     }
     let mut ended = false;
     for hint in hints {
-        let Some(event) = events.get(*hint as usize) else {
+        let place = *hint as usize;
+        if place >= events.len() {
             return Ok(false);
-        };
-        let found = not_false(alloc, event, trues.as_slice())?;
+        }
+        let found = not_false(alloc, events.clause(place), trues.as_slice())?;
         match found.as_slice() {
             [] if !ended => ended = true,
             [only] if !ended && !trues.contains(only) => trues.push(*only)?,
@@ -75,9 +73,10 @@ fn is_strict(
 
 // Whether this holds of each step of a log.
 fn is_strict_log(alloc: Global, log: &Log) -> Result<bool, AllocError> {
-    for event in log.events() {
-        if let Event::Step(clause, hints) = event {
-            if !is_strict(alloc, log.events(), clause, hints.as_slice())? {
+    let events = log.events();
+    for place in 0..events.len() {
+        if let Some(hints) = events.hints(place) {
+            if !is_strict(alloc, events, events.clause(place), hints)? {
                 return Ok(false);
             }
         }

@@ -15,7 +15,7 @@ pub fn given_log(alloc: Global, formula: &Formula) -> Result<Log, Memory>
     let clauses = formula.clauses();
     let mut log = Log::new(alloc);
     for place in 0..clauses.len() {
-        log.given(Clause::from_ordered(alloc, clauses.clause(place))?)?;
+        log.given_ordered(clauses.clause(place))?;
     }
     Ok(log)
 }

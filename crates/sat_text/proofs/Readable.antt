@@ -4,11 +4,10 @@ use Rattle.std.specs.List.{AllByRecursion}
 use Rattle.std.proofs.lemmas.Bool.Decides.{nat_tests}
 use Rattle.std.proofs.lemmas.List.Elements.{All-from_recursion, recursion_from_All}
 use Rattle.cnf_core.specs.Literal.{IsClause}
-use Rattle.cnf_core.specs.declared.log.Event.{Event}
 use Rattle.cnf_core.specs.Events.{LogEvent, given, step, clauses_of, givens, EachStep, HintsAreThere, HintsAreEarlier}
 use Rattle.cnf_core.specs.LogLines.{ids_from, event_ids, step_lines, log_lines}
 use Rattle.sat_text.specs.Writing.{IsShort, IsReadable}
-use Rattle.sat_text.proofs.EventIds.{plain_events, length-plain, length-event_ids, given_count_small}
+use Rattle.sat_text.proofs.EventIds.{length-event_ids, given_count_small}
 
 -- a positive number of at most eighteen digits
 abbrev IsSmall : ℕ → Type 0
@@ -38,12 +37,11 @@ readable_lines ids (id ∷ own) earlier (step clause hs ∷ events) small mine h
   readable_lines ids own (earlier ++ step clause hs ∷ []) events small mine.1 hints.1 (omega (arith, length-append earlier (step clause hs ∷ []))) clauses.1,
 )
 
--- the lines of a log whose events lie in memory
-pub log_readable : (events : List Event) → length events < 2 ^ 58 → HintsAreEarlier (plain_events events) → All IsClause (clauses_of (plain_events events)) → All IsReadable (log_lines (plain_events events))
+-- the lines of a log
+pub log_readable : (events : List LogEvent) → length events < 2 ^ 58 → HintsAreEarlier events → All IsClause (clauses_of events) → All IsReadable (log_lines events)
 log_readable events few hints clauses =
-    let all = plain_events events in
-    let ids : AllByRecursion IsSmall (event_ids all)
-    = small_ids 1 (length (givens all) + 1) all (omega arith) (omega arith) (omega (arith, few, length-plain events)) (omega (arith, few, length-plain events, given_count_small events)) in
-    All-from_recursion IsReadable (log_lines all)
-    (readable_lines (event_ids all) (event_ids all) [] all (All-from_recursion IsSmall (event_ids all) ids) ids hints
-    (omega (arith, length-event_ids events, length-plain events)) (recursion_from_All IsClause (clauses_of all) clauses))
+    let ids : AllByRecursion IsSmall (event_ids events)
+    = small_ids 1 (length (givens events) + 1) events (omega arith) (omega arith) (omega (arith, few)) (omega (arith, few, given_count_small events)) in
+    All-from_recursion IsReadable (log_lines events)
+    (readable_lines (event_ids events) (event_ids events) [] events (All-from_recursion IsSmall (event_ids events) ids) ids hints
+    (omega (arith, length-event_ids events)) (recursion_from_All IsClause (clauses_of events) clauses))

@@ -4,7 +4,7 @@ ghost use Rattle.std.specs.Prelude.{◌≡◌, ◌^◌, ◌<◌, ℕ, pos, ◌++
 ghost use Rattle.std.specs.Fmt.{signed_decimal};
 ghost use Rattle.std.specs.List.{flat_map};
 ghost use Rattle.cnf_core.specs.Literal.{Literal, IsVariable};
-ghost use Rattle.cnf_core.specs.Events.{plain_event, plain_note, is_given, HintsAreEarlier};
+ghost use Rattle.cnf_core.specs.Events.{plain_note, is_given, HintsAreEarlier};
 ghost use Rattle.cnf_core.specs.Lines.{add};
 ghost use Rattle.sat_text.specs.Proofs.{proof_of};
 ghost use Rattle.sat_text.specs.Clauses.{number_of};
@@ -13,7 +13,7 @@ ghost use Rattle.sat_text.specs.CnfGrammar.{SpellsCnf};
 ghost use Rattle.sat_text.specs.LogGrammar.{SpellsLog};
 ghost use Rattle.sat_text.specs.Writing.{spaced, line_text, log_text, IsReadable, note_text, clause_text, header_text, added_text, cnf_text, IsReadableNote, IsReadableFormula, NamesVariables, SaysAgain};
 
-use cnf_core::{CellNote, ClauseList, Event, Formula, Lit, Log};
+use cnf_core::{CellNote, ClauseList, EventList, Formula, Lit, Log};
 use ep_base::Memory;
 use itoa::Buffer;
 use std::alloc::Global;
@@ -117,42 +117,42 @@ fn put_clauses(out: &mut Vec<u8>, clauses: &ClauseList) -> Result<(), Memory>
 }
 
 /// The ids of events: the givens have the first ones, from 1 on, and the steps those behind them.
-fn ids(alloc: Global, events: &[Event]) -> Result<Vec<u64>, Memory>
-    ensures ids { IfOk result (λ made. made.items ≡ event_ids (map plain_event events.now)) }
+fn ids(alloc: Global, events: &EventList) -> Result<Vec<u64>, Memory>
+    ensures ids { IfOk result (λ made. made.items ≡ event_ids events.now) }
     ensures all { IfOk result (λ made. length made.items ≡ length events.now) }
     ensures few { length events.now < 2 ^ 58 }
 {
     let mut given_id = 1;
     let mut step_id = count_givens(events) as u64 + 1;
     let mut made = Vec::new(alloc);
-    for event in events {
-        match event {
-            Event::Given(_) => {
-                made.push(given_id)?;
-                given_id += 1;
-            }
-            Event::Step(_, _) => {
+    for place in 0..events.len() {
+        match events.hints(place) {
+            Some(_) => {
                 made.push(step_id)?;
                 step_id += 1;
+            }
+            None => {
+                made.push(given_id)?;
+                given_id += 1;
             }
         }
     }
     Ok(made)
 }
 
-fn is_given(event: &Event) -> bool
-    ensures { result ≡ is_given (plain_event event.now) }
+/// How many events are givens.
+fn count_givens(events: &EventList) -> usize
+    ensures value { result ≡ count_by is_given events.now }
+    ensures few { result < 2 ^ 58 }
 {
-    match event {
-        Event::Given(_) => true,
-        Event::Step(_, _) => false,
+    let mut count = 0;
+    for place in 0..events.len() {
+        match events.hints(place) {
+            Some(_) => continue,
+            None => count += 1,
+        }
     }
-}
-
-fn count_givens(events: &[Event]) -> usize
-    ensures { result ≡ count_by (λ event. is_given (plain_event event)) events.now }
-{
-    events.iter().filter(|event| is_given(event)).count()
+    count
 }
 
 /// A step's literals with a space before each.
@@ -199,16 +199,16 @@ fn put_step(
 }
 
 /// The lines of the steps of a log, whose events have these ids.
-fn put_steps(out: &mut Vec<u8>, ids: &[u64], events: &[Event]) -> Result<(), Memory>
+fn put_steps(out: &mut Vec<u8>, ids: &[u64], events: &EventList) -> Result<(), Memory>
     requires all { length ids.now ≡ length events.now }
-    requires hints { HintsAreEarlier (map plain_event events.now) }
+    requires hints { HintsAreEarlier events.now }
     ensures { OnOk result (out.new.items ≡ out.old.items
-        ++ flat_map line_text (step_lines ids.now ids.now (map plain_event events.now))) }
+        ++ flat_map line_text (step_lines ids.now ids.now events.now)) }
 {
-    for (index, event) in events.iter().enumerate() {
-        match event {
-            Event::Given(_) => {}
-            Event::Step(clause, hints) => put_step(out, ids, ids[index], clause.lits(), hints)?,
+    for place in 0..events.len() {
+        match events.hints(place) {
+            Some(hints) => put_step(out, ids, ids[place], events.clause(place), hints)?,
+            None => {}
         }
     }
     Ok(())

@@ -1,6 +1,5 @@
-use Rattle.std.proofs.Common.{◌≡◌, ◌∙◌, ◌<◌, ◌*◌, ◌^◌, ℕ, ap, sym, drop, length, arith}
-use Rattle.std.proofs.lemmas.List.{length-map}
-use Rattle.cnf_core.specs.Events.{givens, plain_event}
+use Rattle.std.proofs.Common.{◌≡◌, ◌∙◌, ℕ, ap, drop, length, arith}
+use Rattle.cnf_core.specs.Events.{givens}
 use Rattle.ep_outputs.proofs.Givens.{base-left, base-within, fewer-givens}
 use Rattle.ep_outputs.proofs.texts.added_number.Goals as goal
 
@@ -16,6 +15,5 @@ pub returns-clause-short : goal.returns-clause-short
 returns-clause-short c =
     let all : length c.args.clauses.now ≡ length (givens c.args.log.now.events) = ap length c.requires in
     let fewer = fewer-givens c.args.log.now.events in
-    let same : length c.events-events.result.now ≡ length c.args.log.now.events = sym (length-map c.events-events.result.now plain_event) ∙ ap length c.events-events.ensures.value in
-    let held : length c.events-events.result.now * 40 < 2 ^ 63 = c.events-events.type_inv.1 in
-    omega (arith, all, fewer, same, held)
+    let same : length c.events.result.now ≡ length c.args.log.now.events = ap length c.events.ensures.value in
+    omega (arith, all, fewer, same, c.len-count.ensures.value, c.len-count.ensures.few)

@@ -1,5 +1,5 @@
-use Rattle.std.proofs.Common.{◌≡◌, ◌∙◌, true, sym, subst, take}
-use Rattle.std.specs.List.{All}
+use Rattle.std.proofs.Common.{◌≡◌, true, [], sym, subst}
+use Rattle.std.specs.Prelude.{All}
 use Rattle.cnf_core.specs.Events.{LogState, is_given}
 use Rattle.opb_solve.proofs.GivenLogs.{are_given}
 use Rattle.opb_solve.proofs.posing.give_all.Goals as goal
@@ -8,14 +8,8 @@ use Rattle.opb_solve.proofs.posing.give_all.Goals as goal
 abbrev HasGivens : LogState → Type 0
 HasGivens log = All (λ e. is_given e ≡ true) log.events
 
-pub returns-in_err-from_ordered-clause-givens : goal.returns-in_err-from_ordered-clause-givens
-returns-in_err-from_ordered-clause-givens c =
-    subst HasGivens (sym c.loop-place.invariant) (are_given (take c.loop-place.place c.args.clauses.now))
-
-pub returns-in_err-given-clause-givens : goal.returns-in_err-given-clause-givens
-returns-in_err-given-clause-givens c =
-    subst HasGivens (sym (c.in_err-given.ensures.err ∙ c.loop-place.invariant)) (are_given (take c.loop-place.place c.args.clauses.now))
-
 pub returns-clause-givens : goal.returns-clause-givens
-returns-clause-givens c =
-    subst HasGivens (sym c.loop-place.invariant) (are_given (take c.loop-place.place c.args.clauses.now))
+returns-clause-givens c = subst HasGivens (sym c.in_ok-log.ensures) (are_given c.into_clauses.result)
+
+pub returns-in_err-log-clause-givens : goal.returns-in_err-log-clause-givens
+returns-in_err-log-clause-givens c = subst HasGivens (sym c.requires) (are_given [])

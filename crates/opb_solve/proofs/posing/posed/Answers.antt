@@ -1,8 +1,7 @@
 use Rattle.std.proofs.Common.{◌≡◌, ◌∙◌, ℕ, ℤ, true, List, map, length, take, sym, ap, subst}
 use Rattle.std.specs.List.{All}
-use Rattle.std.proofs.lemmas.List.{length-map}
 use Rattle.std.proofs.lemmas.List.FromFn.{length-range_with_len}
-use Rattle.cnf_core.specs.Events.{LogEvent, LogState, Note, given, givens, is_given, plain_event}
+use Rattle.cnf_core.specs.Events.{LogEvent, LogState, Note, given, givens, is_given}
 use Rattle.cnf_core.specs.Literal.{Literal}
 use Rattle.enc_var.specs.Notes.{cell_notes}
 use Rattle.ep_flat.specs.Flats.{StandForCells}
@@ -36,24 +35,24 @@ notes-requires c =
 
 pub mark-requires : goal.mark-requires
 mark-requires c =
-    all_base c.clauses.result.now c.give_all.new.log.events (length c.events.result.now)
+    all_base c.in_ok-formula.formula.clauses c.give_all.new.log.events c.len-base.result
     (ap (λ (l : LogState). l.events) c.in_ok-give_all.ensures.all)
-    (sym (length-map c.events.result.now plain_event) ∙ ap length c.events.ensures.value)
+    (c.len-base.ensures.value ∙ ap length c.events.ensures.value)
 
 pub returns-clause-poses : goal.returns-clause-poses
 returns-clause-poses c =
-    let clauses : List (List Literal) = c.clauses.result.now in
+    let clauses : List (List Literal) = c.in_ok-formula.formula.clauses in
     let P : List LogEvent → Type 0 = λ es. All (λ e. is_given e ≡ true) es in
     let kept : c.mark.new.self.events ≡ c.give_all.new.log.events = ap (λ (l : LogState). l.events) c.mark.ensures in
     let are : c.mark.new.self.events ≡ map given clauses = kept ∙ ap (λ (l : LogState). l.events) c.in_ok-give_all.ensures.all in
-    let counted : length c.events.result.now ≡ length c.give_all.new.log.events = sym (length-map c.events.result.now plain_event) ∙ ap length c.events.ensures.value in
+    let counted : c.len-base.result ≡ length c.give_all.new.log.events = c.len-base.ensures.value ∙ ap length c.events.ensures.value in
     record {
       formula = c.in_ok-formula.formula;
       stands = formula_is (plain_opb c.args.opb.now) c.args.vars.now (plain_flat c.in_ok-flat.flat) c.in_ok-formula.layout c.in_ok-formula.formula c.in_ok-flat.goal (plain_map c.in_ok-map.map)
           c.requires.vars c.in_ok-flat.ensures c.in_ok-formula.ensures c.in_ok-map.ensures;
       cells = c.in_ok-cells.ensures;
       are_givens = subst P (sym are) (are_given clauses);
-      givens_are = ap givens are ∙ givens_are clauses ∙ c.clauses.ensures.value;
+      givens_are = ap givens are ∙ givens_are clauses;
       is_base = ap (λ (l : LogState). l.base) c.mark.ensures ∙ counted ∙ ap length (sym kept);
       notes = ap (λ (l : LogState). l.notes) c.mark.ensures ∙ c.in_ok-notes.ensures ∙ ap (λ (cells : List Cell). cell_notes c.in_ok-formula.layout cells c.in_ok-map.map.cells.items) c.deref-2.ensures.value;
       is_whole = ap (λ (s : SolverView). s.broken) c.in_ok-solver.ensures.made;
