@@ -2,6 +2,7 @@ mod Found
 mod Cases
 mod Entries
 mod Reading
+mod Running
 mod Orders
 mod Levels
 mod Constraining

@@ -101,7 +101,7 @@ pub record HasRead (entries : List (List ℤ × ℕ)) (ns : List ℤ) (k : ℕ) 
   pub before : (i : ℕ) → i < k → i < length ns → IsUpTo above (get_or ns i (pos 0)) ⊎ (IsUpTo last (get_or ns i (pos 0)) × (rests_after (get_or ns i (pos 0)) entries ≡ []))
   pub behind : (i : ℕ) → k ≤ i → i < length ns → (IsUpTo above (get_or ns i (pos 0)) → ⊥) × (IsUpTo last (get_or ns i (pos 0)) → ⊥)
 
-by_places : {P : Type 0} (i j : ℕ) → (i < j → P) → (i ≡ j → P) → (j < i → P) → P
+pub by_places : {P : Type 0} (i j : ℕ) → (i < j → P) → (i ≡ j → P) → (j < i → P) → P
 by_places {P} i j less same more = elim (split i j) as (λ _. P) [ inl lt ↦ less lt | inr r ↦ elim r as (λ _. P) [ inl e ↦ same e | inr gt ↦ more gt ] ]
   where
     step : (i j : ℕ) → (i < j) ⊎ ((i ≡ j) ⊎ (j < i)) → (suc i < suc j) ⊎ ((suc i ≡ suc j) ⊎ (suc j < suc i))

@@ -5,13 +5,14 @@ ghost use Rattle.std.specs.List.{All};
 ghost use Rattle.std.specs.Ordering.{int_eq};
 ghost use Rattle.ep_flat.specs.Cons.{number_at};
 ghost use Rattle.enc_atoms.specs.Atoms.{Adds};
-ghost use Rattle.enc_arith.specs.Elements.{IsInRun, element_value, number_of_first, or_outside, part_of, rest_after, rests_after, with_parts as with_parts_of};
+ghost use Rattle.enc_arith.specs.Elements.{IsInRun, element_value, number_of_first, part_of, rest_after, rests_after, with_parts as with_parts_of};
 ghost use Rattle.enc_arith.specs.Entries.{HaveParts, plain_entry};
 ghost use Rattle.enc_arith.specs.Saying.{IsReady, IsTarget, NamesIn, or_is_not, says};
 
 use crate::functions::Function;
+use crate::runs::{add_function, or_outside};
 use crate::targets::Target;
-use crate::telling::{add_function, add_number};
+use crate::telling::add_number;
 use cnf_core::Formula;
 use enc_atoms::Atom;
 use enc_var::Layout;
@@ -142,24 +143,6 @@ fn add_part(
         None => add_other(alloc, layout, f, when, target, other)?,
     }
     Ok(())
-}
-
-/// Some atoms, and that an index isn't in a run: above the one number, if there is one, and at most the other.
-fn or_outside(
-    alloc: Global,
-    when: &[Atom],
-    index: u64,
-    above: Option<i64>,
-    last: i64,
-) -> Result<Vec<Atom>, AllocError>
-    ensures { IfOk result (λ atoms. atoms.items ≡ or_outside when.now index above last) }
-{
-    let mut atoms = Vec::from_slice(alloc, when)?;
-    if let Some(above) = above {
-        atoms.push(Atom::at_most(index, above))?;
-    }
-    atoms.push(Atom::above(index, last))?;
-    Ok(atoms)
 }
 
 /// Adds clauses which say that where the index is in a run, above the one number and at most the other, the result is the

@@ -9,6 +9,7 @@ mod extremes;
 mod functions;
 mod numbers;
 mod operations;
+mod runs;
 mod sides;
 mod targets;
 mod telling;

@@ -8,8 +8,8 @@ ghost use Rattle.enc_arith.specs.Operations.{result_of};
 ghost use Rattle.enc_arith.specs.Saying.{IsReady, IsTarget, or_is_not, says};
 
 use crate::functions::Function;
+use crate::runs::add_function;
 use crate::targets::Target;
-use crate::telling::add_function;
 use cnf_core::Formula;
 use enc_atoms::Atom;
 use enc_var::Layout;

@@ -1,19 +1,16 @@
-//! Clauses which say that a variable has the value of a function of another one, or whether it has.
+//! Clauses which say that a variable is a number, or whether it is.
 
-ghost use Rattle.std.specs.Prelude.{◌<◌, ◌++◌, false, length, IsTrue, OnOk};
+ghost use Rattle.std.specs.Prelude.{◌++◌, false, IsTrue, OnOk};
 ghost use Rattle.std.specs.Ordering.{int_eq};
 ghost use Rattle.ep_flat.specs.Cons.{is_value, number_at};
 ghost use Rattle.enc_atoms.specs.Atoms.{Adds, clause_holds};
-ghost use Rattle.enc_arith.specs.Functions.{function_value};
-ghost use Rattle.enc_arith.specs.Saying.{IsReady, IsTarget, NamesIn, or_is_not, says};
+ghost use Rattle.enc_arith.specs.Saying.{IsReady, IsTarget, NamesIn, says};
 
-use crate::functions::Function;
 use crate::targets::Target;
 use cnf_core::Formula;
 use enc_atoms::{Atom, add_clause};
 use enc_var::Layout;
 use ep_base::Memory;
-use ep_numbers::listed;
 use std::alloc::Global;
 
 /// Adds the clause of some atoms and others.
@@ -96,7 +93,7 @@ pub(crate) fn add_failure(
 }
 
 /// Adds clauses which say that the result is the number that was found.
-fn add_found(
+pub(crate) fn add_found(
     alloc: Global,
     layout: &Layout,
     f: &mut Formula,
@@ -113,63 +110,6 @@ fn add_found(
     match found {
         Some(number) => add_number(alloc, layout, f, when, target, number)?,
         None => add_failure(alloc, layout, f, when, target)?,
-    }
-    Ok(())
-}
-
-/// Adds clauses which say that where the variable `y` is the number the result is the function's value there.
-fn add_case(
-    alloc: Global,
-    layout: &Layout,
-    f: &mut Formula,
-    when: &[Atom],
-    target: Target,
-    function: Function,
-    y: u64,
-    number: i64,
-) -> Result<(), Memory>
-    requires ready { IsReady layout.now f.old }
-    requires names { NamesIn layout.now when.now }
-    requires there { IsTarget layout.now target.truth target.result }
-    requires argument { y < length layout.now }
-    ensures { OnOk result (Adds layout.now f.old layout.now f.new
-        (λ values. IsTrue (says values (or_is_not when.now y number) target.truth
-        (int_eq (number_at values target.result) (function_value function number))))) }
-{
-    let mut atoms = Vec::from_slice(alloc, when)?;
-    atoms.push(Atom::is_not(y, number))?;
-    add_found(
-        alloc,
-        layout,
-        f,
-        atoms.as_slice(),
-        target,
-        function.at(number),
-    )?;
-    Ok(())
-}
-
-/// Adds clauses which say that the result is the function's value of the variable `y`.
-pub(crate) fn add_function(
-    alloc: Global,
-    layout: &Layout,
-    f: &mut Formula,
-    when: &[Atom],
-    target: Target,
-    function: Function,
-    y: u64,
-) -> Result<(), Memory>
-    requires ready { IsReady layout.now f.old }
-    requires names { NamesIn layout.now when.now }
-    requires there { IsTarget layout.now target.truth target.result }
-    requires argument { y < length layout.now }
-    ensures { OnOk result (Adds layout.now f.old layout.now f.new
-        (λ values. IsTrue (says values when.now target.truth
-        (int_eq (number_at values target.result) (function_value function (number_at values y)))))) }
-{
-    let numbers = listed(alloc, layout.domain(y))?;
-    for number in numbers.as_slice() {
-        add_case(alloc, layout, f, when, target, function, y, *number)?;
     }
     Ok(())
 }

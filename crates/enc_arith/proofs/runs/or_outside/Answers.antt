@@ -3,8 +3,8 @@ use Rattle.std.proofs.lemmas.Int.{to_z-of_z}
 use Rattle.enc_atoms.specs.declared.atoms.Atom.{Atom}
 use Rattle.enc_atoms.specs.declared.atoms.Test.{Test}
 use Rattle.enc_arith.specs.Elements.{or_outside, or_up_to}
-use Rattle.enc_arith.proofs.elements.or_outside.Goals as goal
-use Rattle.enc_arith.proofs.elements.or_outside.Goals.{in-Some+in_ok-push, in_default}
+use Rattle.enc_arith.proofs.runs.or_outside.Goals as goal
+use Rattle.enc_arith.proofs.runs.or_outside.Goals.{in-Some+in_ok-push, in_default}
 
 pub returns : goal.returns
 unfolding or_outside or_up_to
