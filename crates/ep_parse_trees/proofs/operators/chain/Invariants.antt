@@ -11,8 +11,8 @@ abbrev pub invariant-loop-op : goal.invariant-loop-op
 invariant-loop-op g l =
     record {
       measured : Measured l.left;
-      whole : grown (another_binary l.self.most (lower l.self.most) (words_of l.chain) (right_of l.chain)) (expr_tree l.left.expr) l.cursor
-          ≡ grown (another_binary l.self.most (lower l.self.most) (words_of l.chain) (right_of l.chain)) (expr_tree l.fn.first.expr) l.fn.cursor;
+      whole : grown (another_binary l.below.most (lower l.below.most) (words_of l.chain) (right_of l.chain)) (expr_tree l.left.expr) l.cursor
+          ≡ grown (another_binary l.below.most (lower l.below.most) (words_of l.chain) (right_of l.chain)) (expr_tree l.fn.first.expr) l.fn.cursor;
     }
 
 abbrev pub decreases-loop-op : goal.decreases-loop-op

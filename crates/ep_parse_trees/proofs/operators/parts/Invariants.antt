@@ -10,8 +10,8 @@ use Rattle.ep_tree.specs.Views.{expr_tree}
 
 abbrev pub invariant-more : goal.invariant-more
 invariant-more g l =
-    SoFar l.fn.self.most l.word (level_of l.level)
-    (continued (expr_tree l.fn.first.expr ∷ []) (more_parts (lower l.fn.self.most) l.word (level_of l.level) (expr_tree l.fn.first.expr) l.fn.cursor)) l.parts l.cursor
+    SoFar l.fn.below.most l.word (level_of l.level)
+    (continued (expr_tree l.fn.first.expr ∷ []) (more_parts (lower l.fn.below.most) l.word (level_of l.level) (expr_tree l.fn.first.expr) l.fn.cursor)) l.parts l.cursor
 
 abbrev pub decreases-more : goal.decreases-more
 decreases-more g l = length l.cursor

@@ -9,8 +9,8 @@ use Rattle.ep_tree.specs.Views.{expr_tree}
 
 abbrev pub invariant-more : goal.invariant-more
 invariant-more g l =
-    SoFar l.fn.self.most
-    (continued ((true, expr_tree l.fn.first.expr) ∷ []) (more_terms (lower l.fn.self.most) (true, expr_tree l.fn.first.expr) l.fn.cursor)) l.terms l.cursor
+    SoFar l.fn.below.most
+    (continued ((true, expr_tree l.fn.first.expr) ∷ []) (more_terms (lower l.fn.below.most) (true, expr_tree l.fn.first.expr) l.fn.cursor)) l.terms l.cursor
 
 abbrev pub decreases-more : goal.decreases-more
 decreases-more g l = length l.cursor

@@ -4,7 +4,7 @@ use Rattle.ep_parse_below.proofs.ListLoops.{IndicesLeft}
 use Rattle.ep_parse_trees.proofs.reads.indices.Given as goal
 
 abbrev pub invariant-more : goal.invariant-more
-invariant-more g l = IndicesLeft l.fn.self.most l.indices l.cursor l.fn.cursor
+invariant-more g l = IndicesLeft l.fn.below.most l.indices l.cursor l.fn.cursor
 
 abbrev pub decreases-more : goal.decreases-more
 decreases-more g l = length l.cursor

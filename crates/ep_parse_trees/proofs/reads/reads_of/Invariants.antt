@@ -8,8 +8,8 @@ use Rattle.ep_tree.specs.Views.{expr_tree}
 
 abbrev pub invariant-more : goal.invariant-more
 invariant-more g l =
-    (grown (another_read l.fn.self.most (lower l.fn.self.most)) (expr_tree l.found.expr) l.cursor
-    ≡ grown (another_read l.fn.self.most (lower l.fn.self.most)) (expr_tree l.fn.first.expr) l.fn.cursor)
+    (grown (another_read l.fn.below.most (lower l.fn.below.most)) (expr_tree l.found.expr) l.cursor
+    ≡ grown (another_read l.fn.below.most (lower l.fn.below.most)) (expr_tree l.fn.first.expr) l.fn.cursor)
     × Measured l.found
 
 abbrev pub decreases-more : goal.decreases-more
