@@ -39,14 +39,14 @@ fn is_cut_there(alloc: Global, text: &str, may_end: bool) -> Result<bool, Fail> 
 /// mark `@`, where it is whole; and a foreign token behind each word is refused at its place.
 fn is_right(alloc: Global, row: &str) -> Result<bool, Fail> {
     let mut text = String::from_str(alloc, LANGUAGE)?;
-    let mut blank = "";
     for word in row.split(' ') {
-        text.push_str(blank)?;
+        if text.as_str().len() > LANGUAGE.len() {
+            text.push_str(" ")?;
+        }
         text.push_str(word.strip_suffix("@").unwrap_or(word))?;
         if !is_cut_there(alloc, text.as_str(), word.ends_with("@"))? {
             return Ok(false);
         }
-        blank = " ";
     }
     Ok(true)
 }
