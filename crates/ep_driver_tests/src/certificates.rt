@@ -75,7 +75,8 @@ fn proofs_are_checked(rt: HostRuntime) -> Result<(), Fail> {
 
 /// What is said where only one file stands there.
 fn said_over_one<R: Threads + Sync + AllocGlobal>(rt: &R, name: &str) -> Result<String, Fail> {
-    let mut files = files_of(rt.alloc(), &[(name, "p cnf 0 0".as_bytes())], 0)?;
+    let text: &[u8] = b"p cnf 0 0";
+    let mut files = files_of(rt.alloc(), &[(name, text)], 0)?;
     said_over(rt, CHECK, &mut files)
 }
 

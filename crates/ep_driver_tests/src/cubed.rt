@@ -3,13 +3,13 @@
 //! A table has a row a line: a number of variables, a model below its first line, its parameters, and what is put out below the first line
 //! of an answer, with `#` between them. An `@` ends a line of the texts.
 
-use crate::calls::{FIRST_LINE, files_of, held_by, said_over, text_of};
+use crate::calls::{FIRST_LINE, files_of, held_by, said_over, text_of, wrong_behind};
 use std::test::Fail;
 
-pub(crate) const CUBES: &str = "--in-eprime m --in-param p --cubes ";
+const CUBES: &str = "--in-eprime m --in-param p --cubes ";
 
 /// Answers are those of `solve`. With an objective nothing is divided.
-pub(crate) const ANSWERS: &str = "\
+const ANSWERS: &str = "\
 3#find S, E, N, D, M, O, R, Y : int(0..9)@such that 1000*S + 100*E + 10*N + D + 1000*M + 100*O + 10*R + E = 10000*M + 1000*O + 100*N + 10*E + Y,@S != 0, M != 0, allDiff([S, E, N, D, M, O, R, Y])##$ solution@letting S be 9@letting E be 5@letting N be 6@letting D be 7@letting M be 1@letting O be 0@letting R be 8@letting Y be 2@
 3#given n, cap : int(1..) given w, v : matrix indexed by [int(1..n)] of int(0..) find take : matrix indexed by [int(1..n)] of bool maximising sum i : int(1..n) . take[i] * v[i] such that (sum i : int(1..n) . take[i] * w[i]) <= cap#letting n be 3 letting cap be 7 letting w be [3, 4, 5] letting v be [4, 5, 6]#$ optimum 9@letting take be [true, true, false; int(1..3)]@
 1#find a, b, c, d : int(1..3)@such that allDiff([a, b, c, d])##$ no solution@
@@ -20,12 +20,21 @@ pub(crate) const ANSWERS: &str = "\
 2###$ solution@";
 
 /// Words that are no command.
-pub(crate) const NO_COMMANDS: &str = "\
+const NO_COMMANDS: &str = "\
 0###fault usage@
 7###fault usage@
 1 --cubes 1###fault usage@
 2 --task explain###fault usage@
 2 --task enumerate --solutions all###fault usage@";
+
+#[test]
+fn cubes_have_the_answers_of_models(rt: HostRuntime) -> Result<(), Fail> {
+    let wrong = wrong_behind(&rt, CUBES, FIRST_LINE, ANSWERS)?;
+    assert_eq!(rt; wrong.as_str(), "");
+    let wrong = wrong_behind(&rt, CUBES, "", NO_COMMANDS)?;
+    assert_eq!(rt; wrong.as_str(), "");
+    Ok(())
+}
 
 /// Seven pigeons of which each sits in one of six holes, and no two in one.
 const PIGEONS: &str = "\

@@ -3,15 +3,17 @@
 //! A table has a row a line: a model below its first line, its parameters, and what is put out, with `#` between them. An `@` ends a line
 //! of the texts.
 
-use crate::calls::{FIRST_LINE, files_of, joined, said_by_bytes, text_of};
+use crate::calls::{
+    FIRST_LINE, files_of, joined, said_by_bytes, text_of, wrong_behind, wrong_rows,
+};
 use std::test::Fail;
 
-pub(crate) const EXPLAIN: &str = "--task explain --in-eprime m --in-param p";
+const EXPLAIN: &str = "--task explain --in-eprime m --in-param p";
 
-pub(crate) const EXPLAIN_IN: &str = "--task explain --in-eprime m --undefined ";
+const EXPLAIN_IN: &str = "--task explain --in-eprime m --undefined ";
 
 /// Models with what is said of them: where several answers are right each has one value.
-pub(crate) const EXPLAINED: &str = "\
+const EXPLAINED: &str = "\
 find x : int(2..3)@such that x > 2, x < 3, x != 1##$ explanation 2@$ without 1@letting x be 2@$ without 2@letting x be 3@
 find x : int(1..0)@such that true##$ explanation 0@
 find x : int(1..0)##$ explanation 0@
@@ -24,16 +26,32 @@ such that false##$ explanation 1@$ without 1@
 ##$ solution@";
 
 /// The same by a mode of undefinedness, which stands in front.
-pub(crate) const IN_A_MODE: &str = "\
+const IN_A_MODE: &str = "\
 relational#find x : int(0..0)@such that 1 / x = 1 \\/ true##$ solution@letting x be 0@
 strict#find x : int(0..0)@such that 1 / x = 1 \\/ true##$ explanation 1@$ without 1@letting x be 0@";
 
 /// Models and words that are refused.
-pub(crate) const REFUSED: &str = "\
+const REFUSED: &str = "\
 find x : int(1..3)@such that x##fault F5 model 3:11@
 find x : int(1..3)@such that y > 1##fault F3 model 3:11 y@
 find x : int(1..3)@such that x + 1099511627776 > 7##limit L5@
 given n : int(1..9)@find x : int(n..n)@such that x != n##fault F8 n@";
+
+#[test]
+fn models_are_explained(rt: HostRuntime) -> Result<(), Fail> {
+    let wrong = wrong_rows(&rt, EXPLAIN, FIRST_LINE, EXPLAINED)?;
+    assert_eq!(rt; wrong.as_str(), "");
+    let wrong = wrong_behind(&rt, EXPLAIN_IN, FIRST_LINE, IN_A_MODE)?;
+    assert_eq!(rt; wrong.as_str(), "");
+    Ok(())
+}
+
+#[test]
+fn what_is_faulty_is_refused(rt: HostRuntime) -> Result<(), Fail> {
+    let wrong = wrong_rows(&rt, EXPLAIN, "", REFUSED)?;
+    assert_eq!(rt; wrong.as_str(), "");
+    Ok(())
+}
 
 /// Four pigeons of which each sits in one of three holes, and no two in one.
 const PIGEONS: &str = "\

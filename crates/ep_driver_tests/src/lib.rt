@@ -17,5 +17,3 @@ mod generated;
 mod problems;
 #[cfg(test)]
 mod runs;
-#[cfg(test)]
-mod tables;

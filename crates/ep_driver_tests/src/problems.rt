@@ -56,11 +56,16 @@ fn first_wrong_problem<R: Threads + Sync + AllocGlobal>(
 }
 
 #[test]
-fn problems_are_answered_or_refused(rt: HostRuntime) -> Result<(), Fail> {
-    for table in [ANSWERED, REFUSED] {
-        let wrong = first_wrong_problem(&rt, table)?;
-        assert_eq!(rt; wrong.as_str(), "");
-    }
+fn problems_have_their_answers(rt: HostRuntime) -> Result<(), Fail> {
+    let wrong = first_wrong_problem(&rt, ANSWERED)?;
+    assert_eq!(rt; wrong.as_str(), "");
+    Ok(())
+}
+
+#[test]
+fn problems_are_refused_at_their_line_or_limit(rt: HostRuntime) -> Result<(), Fail> {
+    let wrong = first_wrong_problem(&rt, REFUSED)?;
+    assert_eq!(rt; wrong.as_str(), "");
     Ok(())
 }
 
@@ -99,24 +104,6 @@ fn a_problem_is_read_and_answered_byte_by_byte(rt: HostRuntime) -> Result<(), Fa
         let said = said_by_bytes(&rt, words, &mut files, put_fail)?;
         assert_eq!(rt; said.as_str(), want, "{words}");
     }
-    Ok(())
-}
-
-/// The same, where a pigeon sits in a hole by a variable that is false, or the thirteenth variable is true and no pigeon sits
-/// anywhere, which is to be spared.
-const SPARED: &str = "\
-min: +1 x13 ;@+1 ~x1 +1 ~x2 +1 ~x3 +1 x13 >= 1 ;@+1 ~x4 +1 ~x5 +1 ~x6 +1 x13 >= 1 ;@\
-+1 ~x7 +1 ~x8 +1 ~x9 +1 x13 >= 1 ;@+1 ~x10 +1 ~x11 +1 ~x12 +1 x13 >= 1 ;@\
-+1 x1 +1 x4 +1 x7 +1 x10 >= 3 ;@+1 x2 +1 x5 +1 x8 +1 x11 >= 3 ;@+1 x3 +1 x6 +1 x9 +1 x12 >= 3 ;@\
-+1 x1 +1 x2 +1 x3 +1 x4 +1 x5 +1 x6 +1 x7 +1 x8 +1 x9 +1 x10 +1 x11 +1 x12 -12 x13 >= 0 ;@";
-
-#[test]
-fn a_solution_at_hand_is_put_out(rt: HostRuntime) -> Result<(), Fail> {
-    let text = text_of(rt.alloc(), "", SPARED)?;
-    let mut files = files_of(rt.alloc(), &[("o", text.as_bytes())], 0)?;
-    let said = said_over(&rt, "--task opb --in-opb o --conflicts 1", &mut files)?;
-    let want = "unknown s SATISFIABLE\nv x1 x2 x3 x4 x5 x6 x7 x8 x9 x10 x11 x12 x13\n";
-    assert_eq!(rt; said.as_str(), want);
     Ok(())
 }
 

@@ -3,24 +3,26 @@
 //! A table has a row a line: a model below its first line, what goes with it, and what is put out, below the
 //! first line of an answer, with `#` between them. An `@` ends a line of the texts.
 
-use crate::calls::{FIRST_LINE, Texts, difference, joined, said_of, text_of, wrong_row};
+use crate::calls::{
+    FIRST_LINE, Texts, difference, joined, said_of, text_of, wrong_behind, wrong_row, wrong_rows,
+};
 use std::alloc::{AllocError, Global};
 use std::test::Fail;
 use std::thread::Threads;
 
-pub(crate) const SOLVE: &str = "--in-eprime m --in-param p";
+const SOLVE: &str = "--in-eprime m --in-param p";
 
-pub(crate) const SOLVE_IN: &str = "--in-eprime m --in-param p --undefined=";
+const SOLVE_IN: &str = "--in-eprime m --in-param p --undefined=";
 
-pub(crate) const VERIFY: &str = "--task verify --in-eprime=m --in-solution s";
+const VERIFY: &str = "--task verify --in-eprime=m --in-solution s";
 
-pub(crate) const VERIFY_IN: &str = "--task verify --in-eprime=m --in-solution s --undefined=";
+const VERIFY_IN: &str = "--task verify --in-eprime=m --in-solution s --undefined=";
 
-pub(crate) const LIST_IN: &str = "--task enumerate --in-eprime m --solutions all --undefined=";
+const LIST_IN: &str = "--task enumerate --in-eprime m --solutions all --undefined=";
 
-pub(crate) const LIST: &str = "--task enumerate --in-eprime=m --solutions ";
+const LIST: &str = "--task enumerate --in-eprime=m --solutions ";
 
-pub(crate) const ANSWERS: &str = "\
+const ANSWERS: &str = "\
 ##$ solution@
 such that true, 1 < 2##$ solution@
 such that 1 > 2##$ no solution@
@@ -90,15 +92,52 @@ find x, y : int(2147483648)@such that 2147483648 * (x - 2147483647) + 2147483648
 find x : int(0, 1000000)@such that (1000000 * x) % 7 = 1##$ solution@letting x be 1000000@
 such that true $ \u{e9}##$ solution@";
 
-/// Four pigeons of which each sits in one of three holes, and no two in one, by more words.
-pub(crate) const BUDGETS: &str = "\
-in-eprime m --in-param p#find p : matrix indexed by [int(1..4), int(1..3)] of bool@such that forAll i : int(1..4) . exists j : int(1..3) . p[i,j],@forAll j : int(1..3) . forAll a,b : int(1..4) . (a < b) -> !(p[a,j] /\\ p[b,j])##$ no solution@
-in-eprime m --conflicts 1#find p : matrix indexed by [int(1..4), int(1..3)] of bool@such that forAll i : int(1..4) . exists j : int(1..3) . p[i,j],@forAll j : int(1..3) . forAll a,b : int(1..4) . (a < b) -> !(p[a,j] /\\ p[b,j])##$ unknown 1 conflicts@
-in-eprime m --conflicts=01#find p : matrix indexed by [int(1..4), int(1..3)] of bool@such that forAll i : int(1..4) . exists j : int(1..3) . p[i,j],@forAll j : int(1..3) . forAll a,b : int(1..4) . (a < b) -> !(p[a,j] /\\ p[b,j])##$ unknown 1 conflicts@
-task enumerate --in-eprime m --solutions 10#find p : matrix indexed by [int(1..4), int(1..3)] of bool@such that forAll i : int(1..4) . exists j : int(1..3) . p[i,j],@forAll j : int(1..3) . forAll a,b : int(1..4) . (a < b) -> !(p[a,j] /\\ p[b,j])##$ no solution@
-task enumerate --in-eprime m --solutions 10 --conflicts 1#find p : matrix indexed by [int(1..4), int(1..3)] of bool@such that forAll i : int(1..4) . exists j : int(1..3) . p[i,j],@forAll j : int(1..3) . forAll a,b : int(1..4) . (a < b) -> !(p[a,j] /\\ p[b,j])##$ unknown 1 conflicts@";
+#[test]
+fn models_have_their_answers(rt: HostRuntime) -> Result<(), Fail> {
+    let wrong = wrong_rows(&rt, SOLVE, FIRST_LINE, ANSWERS)?;
+    assert_eq!(rt; wrong.as_str(), "");
+    Ok(())
+}
 
-pub(crate) const REFUSED: &str = "\
+/// Four pigeons of which each sits in one of three holes, and no two in one.
+const PIGEONS: &str = "\
+find p : matrix indexed by [int(1..4), int(1..3)] of bool@such that forAll i : int(1..4) . exists j : int(1..3) . p[i,j],@\
+forAll j : int(1..3) . forAll a,b : int(1..4) . (a < b) -> !(p[a,j] /\\ p[b,j])##";
+
+/// More words, and what is put out.
+const BUDGETS: &str = "\
+--in-eprime m --in-param p#$ no solution@
+--in-eprime m --conflicts 1#$ unknown 1 conflicts@
+--in-eprime m --conflicts=01#$ unknown 1 conflicts@
+--task enumerate --in-eprime m --solutions 10#$ no solution@
+--task enumerate --in-eprime m --solutions 10 --conflicts 1#$ unknown 1 conflicts@";
+
+#[test]
+fn a_budget_is_spent_or_serves(rt: HostRuntime) -> Result<(), Fail> {
+    let wrong = wrong_words(&rt, PIGEONS, FIRST_LINE, BUDGETS)?;
+    assert_eq!(rt; wrong.as_str(), "");
+    Ok(())
+}
+
+/// The first row of a table, which has words and what is put out, that is wrong over the texts of a row, with what is put out.
+fn wrong_words<R: Threads + Sync + AllocGlobal>(
+    rt: &R,
+    texts: &str,
+    first_line: &str,
+    table: &str,
+) -> Result<String, Fail> {
+    for line in table.lines() {
+        let (words, want) = line.split_once('#').unwrap_or((line, ""));
+        let row = joined(rt.alloc(), texts, want)?;
+        let wrong = wrong_row(rt, words, first_line, row.as_str())?;
+        if !wrong.is_empty() {
+            return Ok(wrong);
+        }
+    }
+    Ok(String::new(rt.alloc()))
+}
+
+const REFUSED: &str = "\
 such that 1 < 2 < 3##fault F2 model 2:17@
 given n : int(1..9) where n % 2 = 0#letting n be 3#fault F11 1@
 given n : int(1..9) where n % 2 = 0#letting n be 10#fault F9 n@
@@ -135,7 +174,14 @@ given n : int(1..9)@where n % 2 = 0@find x : int(1..n)#letting n be 10#fault F9 
 find x : int(0..16384)@such that x**3 = 8##limit L5@
 \u{e9}##fault F1 model 2:1@";
 
-pub(crate) const JUDGED: &str = "\
+#[test]
+fn faults_and_limits_have_their_lines(rt: HostRuntime) -> Result<(), Fail> {
+    let wrong = wrong_rows(&rt, SOLVE, "", REFUSED)?;
+    assert_eq!(rt; wrong.as_str(), "");
+    Ok(())
+}
+
+const JUDGED: &str = "\
 find x, y : int(1..9) such that x < y, x + y = 5#letting y be 4 letting x be 1#$ solution@
 find x, y : int(1..9) such that x < y, x + y = 5#letting x be 1 letting y be 3#$ violated 2@
 find x, y : int(1..9) such that x < y, x + y = 5#letting x be 1#$ wrong shape y@
@@ -149,14 +195,28 @@ find S, E, N, D, M, O, R, Y : int(0..9)@such that 1000*S + 100*E + 10*N + D + 10
 find S, E, N, D, M, O, R, Y : int(0..9)@such that 1000*S + 100*E + 10*N + D + 1000*M + 100*O + 10*R + E = 10000*M + 1000*O + 100*N + 10*E + Y,@S != 0, M != 0, allDiff([S, E, N, D, M, O, R, Y])#letting S be 9 letting E be 5 letting N be 6 letting D be 7 letting M be 1 letting O be 0 letting R be 8#$ wrong shape Y@
 find x : int(0..3)@such that y#letting z be y#fault F3 model 3:11 y@";
 
+#[test]
+fn solution_texts_are_judged(rt: HostRuntime) -> Result<(), Fail> {
+    let wrong = wrong_rows(&rt, VERIFY, "", JUDGED)?;
+    assert_eq!(rt; wrong.as_str(), "");
+    Ok(())
+}
+
 /// Rows behind the number of solutions that are wanted.
-pub(crate) const LISTED: &str = "\
+const LISTED: &str = "\
 all#find x : int(1..3) such that x > 2##$ solution 1@letting x be 3@$ complete@
 1#find x : int(1..3) such that x > 2##$ solution 1@letting x be 3@
 all#find x : int(1..3) such that x > 3##$ no solution@
 2###$ solution 1@$ complete@
 all#find x : int(0..0) minimising 6 / x##$ no solution@
 all#find m : matrix indexed by [int(1..0)] of bool##$ solution 1@letting m be [; int(1..0)]@$ complete@";
+
+#[test]
+fn solutions_are_listed(rt: HostRuntime) -> Result<(), Fail> {
+    let wrong = wrong_behind(&rt, LIST, FIRST_LINE, LISTED)?;
+    assert_eq!(rt; wrong.as_str(), "");
+    Ok(())
+}
 
 /// A model with three solutions, and what a list says of each of them.
 const THREE_LISTED: [(&str, &str); 2] = [
@@ -242,7 +302,7 @@ fn each_solution_is_listed_once(rt: HostRuntime) -> Result<(), Fail> {
 }
 
 /// Rows behind a mode of undefinedness.
-pub(crate) const MODE_ANSWERS: &str = "\
+const MODE_ANSWERS: &str = "\
 strict#find x : int(0..0)@such that !(10/x > 2)##$ no solution@
 relational#find x : int(0..0)@such that !(10/x > 2)##$ solution@letting x be 0@
 strict#find x : int(0..2)@such that (x = 0) \\/ (10 / x >= 10)##$ solution@letting x be 1@
@@ -255,15 +315,15 @@ strict#find b : bool@find x : int(1..2)@such that [[b, true], [(1/0 = 1)]][x, 1]
 strict#find m : matrix indexed by [int(1..1)] of int(0..0)@such that !([[1/0], m][1, 1] = 1)##$ no solution@
 strict#find p : matrix indexed by [int(1..1)] of bool@such that !(and([[p, p][3, ..], p][1, ..]))##$ no solution@";
 
-pub(crate) const MODE_REFUSED: &str = "\
+const MODE_REFUSED: &str = "\
 strict#where true \\/ (1/0 = 1)##fault F11 1@
 strict#letting b be 1/0 = 1##fault F10 model 2:1@";
 
-pub(crate) const MODE_LISTED: &str = "\
+const MODE_LISTED: &str = "\
 strict#find x : int(0..2)@such that (x = 0) \\/ (10 / x >= 10)##$ solution 1@letting x be 1@$ complete@
 strict#find x : int(0..0)@such that !(10/x > 2)##$ no solution@";
 
-pub(crate) const MODE_JUDGED: &str = "\
+const MODE_JUDGED: &str = "\
 relational#find x : int(0..0)@such that !(10/x > 2)#letting x be 0#$ solution@
 strict#find x : int(0..0)@such that !(10/x > 2)#letting x be 0#$ violated 1@
 relational#find b : bool@such that !b#letting b be 1/0 = 1#$ solution@
@@ -272,6 +332,20 @@ strict#find x : int(0..1)@maximising toInt(!(1/x = 1))#letting x be 0#$ objectiv
 relational#find m : matrix indexed by [int(1..1)] of int(0..2)@such that !([[1/0], m][1, 1] = 1)#letting m be [1]#$ solution@
 strict#find m : matrix indexed by [int(1..1)] of int(0..2)@such that !([[1/0], m][1, 1] = 1)#letting m be [1]#$ violated 1@
 relational#find p : matrix indexed by [int(1..1)] of bool@such that !(and([[p, p][3, ..], p][1, ..]))#letting p be [true]#$ solution@";
+
+#[test]
+fn a_model_is_read_in_a_mode(rt: HostRuntime) -> Result<(), Fail> {
+    for (words, first_line, rows) in [
+        (SOLVE_IN, FIRST_LINE, MODE_ANSWERS),
+        (SOLVE_IN, "", MODE_REFUSED),
+        (LIST_IN, FIRST_LINE, MODE_LISTED),
+        (VERIFY_IN, "", MODE_JUDGED),
+    ] {
+        let wrong = wrong_behind(&rt, words, first_line, rows)?;
+        assert_eq!(rt; wrong.as_str(), "");
+    }
+    Ok(())
+}
 
 /// The end of the words, a model, and two rests of rows of which one is put out.
 const EITHER: [(&str, &str, &str, &str); 3] = [
@@ -341,9 +415,9 @@ const NO_COMMANDS: &str = "\
 #[test]
 fn words_come_first(rt: HostRuntime) -> Result<(), Fail> {
     let texts = Texts {
-        model: "such that".as_bytes(),
-        params: "such that".as_bytes(),
-        solution: "such that".as_bytes(),
+        model: b"such that",
+        params: b"such that",
+        solution: b"such that",
     };
     for words in NO_COMMANDS.lines() {
         let said = said_of(&rt, words, &texts)?;
@@ -378,8 +452,8 @@ fn said_of_faults<R: Threads + Sync + AllocGlobal>(rt: &R, words: &str) -> Resul
     let model = text_of(rt.alloc(), FIRST_LINE, "such that y")?;
     let texts = Texts {
         model: model.as_bytes(),
-        params: "letting".as_bytes(),
-        solution: "letting".as_bytes(),
+        params: b"letting",
+        solution: b"letting",
     };
     said_of(rt, words, &texts)
 }
@@ -475,14 +549,14 @@ fn said_of_model<R: Threads + Sync + AllocGlobal>(rt: &R, model: &[u8]) -> Resul
     said_of(rt, SOLVE, &texts)
 }
 
-const THREE_LINES: &str = "language ESSENCE' 1.0\nfind x : int(1..3)\nsuch that x > 2";
+const THREE_LINES: &[u8] = b"language ESSENCE' 1.0\nfind x : int(1..3)\nsuch that x > 2";
 
 #[test]
 fn a_model_may_be_cut(rt: HostRuntime) -> Result<(), Fail> {
     let mut length = 0usize;
     for (count, line) in CUT {
         for _ in 0..count {
-            let model = THREE_LINES.as_bytes().get(..length).unwrap_or(b"");
+            let model = THREE_LINES.get(..length).unwrap_or(b"");
             let said = said_of_model(&rt, model)?;
             assert!(rt; is_said(said.as_str(), line), "{line}: {said}");
             length = length.saturating_add(1);
@@ -494,31 +568,26 @@ fn a_model_may_be_cut(rt: HostRuntime) -> Result<(), Fail> {
 
 const THREE_ANSWERED: &str = "answered language ESSENCE' 1.0\n$ solution\nletting x be 3\n";
 
-/// Models, whether a byte that is no text stands behind, the length up to which blanks follow, and what is said. In a comment any byte may stand.
-const BYTES: [(&str, bool, usize, &str); 4] = [
+/// Models, the length up to which blanks follow, and what is said. In a comment any byte may stand.
+const BYTES: [(&[u8], usize, &str); 4] = [
     (
-        "language ESSENCE' 1.0\n",
-        true,
+        b"language ESSENCE' 1.0\n\xff",
         0,
         "text fault F1 model 2:1\n",
     ),
     (
-        "language ESSENCE' 1.0\nsuch that true $",
-        true,
+        b"language ESSENCE' 1.0\nsuch that true $\xff",
         0,
         "answered language ESSENCE' 1.0\n$ solution\n",
     ),
-    (THREE_LINES, false, 16_777_216, THREE_ANSWERED),
-    (THREE_LINES, false, 16_777_217, "limit limit L1 model\n"),
+    (THREE_LINES, 16_777_216, THREE_ANSWERED),
+    (THREE_LINES, 16_777_217, "limit limit L1 model\n"),
 ];
 
-/// A text, a byte that is no text if wanted, and blanks up to a length.
-fn padded(alloc: Global, text: &str, has_byte: bool, length: usize) -> Result<Vec<u8>, AllocError> {
-    let mut model = Vec::from_slice(alloc, text.as_bytes())?;
-    if has_byte {
-        model.push(255)?;
-    }
-    for _ in model.len()..length {
+/// A text with blanks behind it up to a length.
+fn padded(alloc: Global, text: &[u8], length: usize) -> Result<Vec<u8>, AllocError> {
+    let mut model = Vec::from_slice(alloc, text)?;
+    for _ in text.len()..length {
         model.push(b' ')?;
     }
     Ok(model)
@@ -526,8 +595,8 @@ fn padded(alloc: Global, text: &str, has_byte: bool, length: usize) -> Result<Ve
 
 #[test]
 fn texts_may_be_so_long_and_have_any_bytes(rt: HostRuntime) -> Result<(), Fail> {
-    for (text, has_byte, length, want) in BYTES {
-        let model = padded(rt.alloc(), text, has_byte, length)?;
+    for (text, length, want) in BYTES {
+        let model = padded(rt.alloc(), text, length)?;
         let said = said_of_model(&rt, &model)?;
         assert_eq!(rt; said.as_str(), want);
     }

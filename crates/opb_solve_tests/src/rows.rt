@@ -42,7 +42,7 @@ fn this_is_said_of_texts(rt: HostRuntime) -> Result<(), Fail> {
 }
 
 /// Four pigeons in three holes: each sits somewhere, and no hole takes two.
-pub(crate) const PIGEONS: &str = "\
+const PIGEONS: &str = "\
 +1 x1 +1 x2 +1 x3 >= 1 ;
 +1 x4 +1 x5 +1 x6 >= 1 ;
 +1 x7 +1 x8 +1 x9 >= 1 ;
@@ -52,42 +52,14 @@ pub(crate) const PIGEONS: &str = "\
 -1 x3 -1 x6 -1 x9 -1 x12 >= -1 ;
 ";
 
-/// The same, where a pigeon sits in a hole by a variable that is false, or the thirteenth variable is true and no pigeon sits
-/// anywhere, which is to be spared.
-pub(crate) const SPARED: &str = "\
-min: +1 x13 ;
-+1 ~x1 +1 ~x2 +1 ~x3 +1 x13 >= 1 ;
-+1 ~x4 +1 ~x5 +1 ~x6 +1 x13 >= 1 ;
-+1 ~x7 +1 ~x8 +1 ~x9 +1 x13 >= 1 ;
-+1 ~x10 +1 ~x11 +1 ~x12 +1 x13 >= 1 ;
-+1 x1 +1 x4 +1 x7 +1 x10 >= 3 ;
-+1 x2 +1 x5 +1 x8 +1 x11 >= 3 ;
-+1 x3 +1 x6 +1 x9 +1 x12 >= 3 ;
-+1 x1 +1 x2 +1 x3 +1 x4 +1 x5 +1 x6 +1 x7 +1 x8 +1 x9 +1 x10 +1 x11 +1 x12 -12 x13 >= 0 ;
-";
-
-/// Problems, how many conflicts they may meet, and what is said of them.
-const SPENT: [(&str, u64, &str); 4] = [
-    (PIGEONS, 1, "s UNKNOWN| spent"),
-    (PIGEONS, 1_000_000, "s UNSATISFIABLE|"),
-    (
-        SPARED,
-        1,
-        "s SATISFIABLE|v x1 x2 x3 x4 x5 x6 x7 x8 x9 x10 x11 x12 x13| spent",
-    ),
-    (
-        SPARED,
-        1_000_000,
-        "s OPTIMUM FOUND|v x1 x2 x3 x4 x5 x6 x7 x8 x9 x10 x11 x12 x13|",
-    ),
-];
-
 #[test]
 fn conflicts_are_spent(rt: HostRuntime) -> Result<(), Fail> {
-    for (text, conflicts, want) in SPENT {
-        let found = said(rt.alloc(), text, conflicts)?;
-        assert_eq!(rt; found.as_str(), want, "{text}");
-    }
+    let alloc = rt.alloc();
+    assert_eq!(rt; said(alloc, PIGEONS, 1)?.as_str(), "s UNKNOWN| spent");
+    assert_eq!(rt;
+        said(alloc, PIGEONS, 1_000_000)?.as_str(),
+        "s UNSATISFIABLE|"
+    );
     Ok(())
 }
 
