@@ -1,5 +1,5 @@
 -- Events that lie in lists: how many there are, one of them, and one more.
-use Rattle.std.proofs.Common.{◌≡◌, ℕ, zero, suc, ◌+◌, ◌-◌, ◌^◌, ◌<◌, ◌≤◌, Bool, true, false, List, [], ◌∷◌, ◌++◌, length, map, take, replicate, refl, sym, ap, subst, ◌∙◌, length-append, arith}
+use Rattle.std.proofs.Common.{◌≡◌, ℕ, zero, suc, ◌+◌, ◌-◌, ◌<◌, ◌≤◌, Bool, true, false, List, [], ◌∷◌, ◌++◌, length, map, take, replicate, refl, sym, ap, subst, ◌∙◌, length-append, arith}
 use Rattle.std.specs.Prelude.{All, slice_index_or}
 use Rattle.std.specs.List.{AllByRecursion}
 use Rattle.std.proofs.lemmas.List.{length-replicate, take_all}
@@ -71,8 +71,8 @@ given_there e k are lt answer =
 -- an event more
 pub event_added : (old new : Inside) (clause : List Literal) (hints : List ℕ) (is_step : Bool) (end : ℕ) → new.clauses ≡ old.clauses ++ clause ∷ [] → new.hints.items ≡ old.hints.items ++ hints
     → new.ends.items ≡ old.ends.items ++ end ∷ [] → new.steps.items ≡ old.steps.items ++ is_step ∷ [] → end ≡ length new.hints.items
-    → length old.clauses + 1 < 2 ^ 58 → AreEvents old → AreEvents new × (events_in new ≡ events_in old ++ event_of is_step clause hints ∷ [])
-event_added old new clause hints is_step end clauses grown ends steps at room are =
+    → AreEvents old → AreEvents new × (events_in new ≡ events_in old ++ event_of is_step clause hints ∷ [])
+event_added old new clause hints is_step end clauses grown ends steps at are =
     let size : length new.hints.items ≡ length old.hints.items + length hints = ap length grown ∙ length-append old.hints.items hints in
     let count : length new.clauses ≡ length old.clauses + 1 = ap length clauses ∙ length-append old.clauses (clause ∷ []) in
     let ended : length new.ends.items ≡ length old.ends.items + 1 = ap length ends ∙ length-append old.ends.items (end ∷ []) in
@@ -85,7 +85,6 @@ event_added old new clause hints is_step end clauses grown ends steps at room ar
     = ap (lists_from new.hints.items 0) ends
     ∙ list_added old.hints.items new.hints.items hints old.ends.items end grown at are.within are.whole in (
       record {
-        few = omega (arith, count, room);
         ended = omega (arith, ended, count, are.ended);
         answered = omega (arith, answered, count, are.answered);
         within = subst (All (λ e. e ≤ length new.hints.items)) (sym ends) (All-push (λ e. e ≤ length new.hints.items) old.ends.items end within (omega (arith, at)));
@@ -102,7 +101,6 @@ pub none_added : (old new : Inside) → new.clauses ≡ old.clauses → new.hint
     → AreEvents old → AreEvents new × (events_in new ≡ events_in old)
 none_added old new clauses hints ends steps are = (
   record {
-    few = omega (arith, ap length clauses, are.few);
     ended = ap length ends ∙ are.ended ∙ ap length (sym clauses);
     answered = ap length steps ∙ are.answered ∙ ap length (sym clauses);
     within = subst (λ (xs : List ℕ). All (λ e. e ≤ length xs) new.ends.items) (sym hints) (subst (All (λ e. e ≤ length old.hints.items)) (sym ends) are.within);
@@ -136,10 +134,9 @@ last_zero zero = refl
 last_zero (suc n) = last_zero n
 
 -- clauses with as many zeros for ends, none of them a step
-pub givens_there : (e : Inside) → length e.clauses < 2 ^ 58 → e.hints.items ≡ [] → e.ends.items ≡ replicate (length e.clauses) 0 → e.steps.items ≡ replicate (length e.clauses) false → AreEvents e × (events_in e ≡ map given e.clauses)
-givens_there e few hints ends steps = (
+pub givens_there : (e : Inside) → e.hints.items ≡ [] → e.ends.items ≡ replicate (length e.clauses) 0 → e.steps.items ≡ replicate (length e.clauses) false → AreEvents e × (events_in e ≡ map given e.clauses)
+givens_there e hints ends steps = (
   record {
-    few = few;
     ended = ap length ends ∙ length-replicate (length e.clauses) 0;
     answered = ap length steps ∙ length-replicate (length e.clauses) false;
     within = subst (All (λ n. n ≤ length e.hints.items)) (sym ends) (All-from_recursion (λ n. n ≤ length e.hints.items) (replicate (length e.clauses) 0) (zeros_within (length e.clauses) (length e.hints.items)));

@@ -1,5 +1,5 @@
 -- What contracts see of events that lie in lists, and what is true of each such list.
-use Rattle.std.specs.Prelude.{◌≡◌, ℕ, ◌^◌, ◌<◌, ◌≤◌, Bool, List, [], ◌∷◌, All, length, if◌then◌else◌}
+use Rattle.std.specs.Prelude.{◌≡◌, ℕ, ◌≤◌, Bool, List, [], ◌∷◌, All, length, if◌then◌else◌}
 use Rattle.cnf_core.specs.declared.entries.EventList.TheInside.{Inside}
 use Rattle.cnf_core.specs.Literal.{Literal}
 use Rattle.cnf_core.specs.Events.{LogEvent, given, step}
@@ -19,9 +19,8 @@ events_of (clause ∷ clauses) (hints ∷ lists) (is_step ∷ steps) = event_of 
 abbrev pub events_in : Inside → List LogEvent
 events_in e = events_of e.clauses (lists_from e.hints.items 0 e.ends.items) e.steps.items
 
--- there aren't too many events, there are hints and an answer for each clause, the hints of each event lie in the list, and the last ones end where the list does
+-- there are hints and an answer for each clause, the hints of each event lie in the list, and the last ones end where the list does
 pub record AreEvents (e : Inside) : Type 0 where
-  pub few : length e.clauses < 2 ^ 58
   pub ended : length e.ends.items ≡ length e.clauses
   pub answered : length e.steps.items ≡ length e.clauses
   pub within : All (λ end. end ≤ length e.hints.items) e.ends.items

@@ -12,9 +12,6 @@ use ep_base::Memory;
 use std::alloc::Global;
 use std::marker::Model;
 
-/// No memory holds so many events.
-const MOST: usize = 1 << 58;
-
 /// Events in order, counted from 0. The literals of all of them lie in one list and the hints of all steps in another, so that an event
 /// costs no allocation.
 #[derive(Debug, Drop)]
@@ -84,9 +81,6 @@ impl EventList {
     pub fn of_givens(alloc: Global, clauses: ClauseList) -> Result<EventList, Memory>
         ensures { IfOk result (λ events. events ≡ map given clauses) }
     {
-        if clauses.len() >= MOST {
-            return Err(Memory);
-        }
         let mut ends = Vec::new(alloc);
         ends.resize(clauses.len(), 0)?;
         let mut steps = Vec::new(alloc);
@@ -102,7 +96,7 @@ impl EventList {
     /// How many events there are.
     pub fn len(&self) -> usize
         ensures value { result ≡ length self.now }
-        ensures few { result < 2 ^ 58 }
+        ensures few { result < 2 ^ 63 }
     {
         self.clauses.len()
     }
@@ -134,9 +128,6 @@ impl EventList {
         ensures ok { OnOk result (self.new ≡ self.old ++ event_of is_step clause.now hints.now ∷ []) }
         ensures err { OnErr result (self.new ≡ self.old) }
     {
-        if self.clauses.len() + 1 >= MOST {
-            return Err(Memory);
-        }
         self.hints.reserve(hints.len())?;
         self.ends.reserve(1)?;
         self.steps.reserve(1)?;
