@@ -3,7 +3,7 @@
 ghost use Rattle.std.specs.Prelude.{◌≡◌, ◌<◌, length, IsTrue, OnOk, true, false};
 ghost use Rattle.std.specs.List.{All};
 ghost use Rattle.cnf_core.specs.Clauses.{SatisfiesClause};
-ghost use Rattle.cnf_core.specs.Literal.{IsOrdered, VariablesUpTo};
+ghost use Rattle.cnf_core.specs.Literal.{HaveSameLiterals, IsOrdered, VariablesUpTo};
 ghost use Rattle.cnf_core.specs.Steps.{IsConsistent};
 ghost use Rattle.enc_atoms.specs.Atoms.{Adds, clause_holds};
 ghost use Rattle.enc_atoms.specs.Literals.{HasContraries, contrary_of, known_of};
@@ -11,7 +11,7 @@ ghost use Rattle.enc_var.specs.Layouts.{IsLayoutOf};
 ghost use Rattle.enc_var.specs.Ties.{SaysMore};
 
 use crate::atoms::{Atom, Test};
-use cnf_core::{Clause, Formula, Lit};
+use cnf_core::{Formula, Lit};
 use enc_var::{Known, Layout};
 use ep_base::Memory;
 use std::alloc::Global;
@@ -19,7 +19,7 @@ use std::alloc::Global;
 /// Adds a clause which says that one of the atoms holds. Where one always holds, or one is the contrary of another,
 /// nothing is added. After want of memory nothing is promised of the formula.
 ///
-/// Costs a binary search for each atom and a sort of the literals.
+/// Costs a binary search for each atom, a sort of the literals and an allocation.
 pub fn add_clause(
     alloc: Global,
     layout: &Layout,
@@ -39,7 +39,7 @@ pub fn add_clause(
             Known::Is(literal) => literals.push(literal)?,
         }
     }
-    add_literals(alloc, f, literals)
+    add_literals(f, literals)
 }
 
 /// What is known of an atom.
@@ -68,16 +68,27 @@ fn contrary(known: Known) -> Known
     }
 }
 
+/// The literals in order, each once.
+fn in_order(literals: Vec<Lit>) -> Vec<Lit>
+    ensures ordered { IsOrdered result.items }
+    ensures same { HaveSameLiterals result.items literals.items }
+{
+    let mut ordered = literals;
+    ordered.sort_unstable();
+    ordered.dedup();
+    ordered
+}
+
 /// Adds a clause of these literals, unless it always holds.
-fn add_literals(alloc: Global, f: &mut Formula, literals: Vec<Lit>) -> Result<(), Memory>
+fn add_literals(f: &mut Formula, literals: Vec<Lit>) -> Result<(), Memory>
     requires { VariablesUpTo f.old.vars literals.items }
     ensures { OnOk result (SaysMore f.old f.new (λ s. SatisfiesClause s literals.items)) }
 {
-    let clause = Clause::new(alloc, literals)?;
-    if has_contraries(clause.lits()) {
+    let ordered = in_order(literals);
+    if has_contraries(&ordered) {
         return Ok(());
     }
-    f.add(clause)
+    f.add_ordered(&ordered)
 }
 
 /// Whether ordered literals hold one together with its negation, which then stand side by side.

@@ -25,6 +25,9 @@ pub fn add_guarded(
     ensures { OnOk result (Adds layout.now f.old layout.now f.new
         (Unless guard.now (λ values. IsTrue (clause_holds values atoms.now)))) }
 {
+    if guard.is_empty() {
+        return add_clause(alloc, layout, f, atoms);
+    }
     let mut all = Vec::from_slice(alloc, guard)?;
     all.extend_from_slice(atoms)?;
     add_clause(alloc, layout, f, &all)
