@@ -19,7 +19,7 @@ use Rattle.ep_tree.specs.declared.values.Scalar.{Scalar}
 use Rattle.ep_tree.specs.declared.values.ValueType.{ValueType}
 use Rattle.ep_eval.proofs.JudgingForms.{alone_is, both_pass, by_many, by_two, first_all, given_by, regrouped, same_type, typed_length, typed_more}
 use Rattle.ep_eval.specs.Judging.{all_pass, domain_type_at, list_of, matrix_over, passes, set_of_both, type_at, type_if}
-use Rattle.ep_eval.specs.Literals.{index_at}
+use Rattle.ep_forms.specs.Forms.{index_at}
 use Rattle.ep_eval.specs.Ranges.{alone}
 use Rattle.ep_eval.specs.declared.rules.Wanted.{Wanted}
 
@@ -227,11 +227,6 @@ put_behind : (ts : List ValueType) (t : ValueType) (o : Option (List ValueType))
 unfolding map_both
 put_behind ts t None = refl
 put_behind ts t (Some us) = ap Some (sym (append_assoc ts (t ∷ []) us))
-
-none_joined : (o : Option (List ValueType)) → joined_types o None ≡ None
-unfolding map_both
-none_joined None = refl
-none_joined (Some ts) = refl
 
 one_behind : (types : Option (List ValueType)) (j : Judged) (others : List Judged)
     → joined_types types (all_typed (j ∷ others)) ≡ joined_types (map_both (λ all one. all ++ one ∷ []) types (type_from j)) (all_typed others)

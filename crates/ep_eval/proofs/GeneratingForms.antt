@@ -1,179 +1,102 @@
 -- A comprehension by its generators: what it meets, in the order in which it is evaluated, and its parts.
 use Rattle.std.proofs.Common.{◌≡◌, ℕ, ◌+◌, ◌<◌, ◌≤◌, Bool, true, false, List, [], ◌∷◌, ◌++◌, length, ℤ, refl, sym, ap, subst, ◌∙◌, append_assoc, append-nil, arith}
 use Rattle.std.specs.Prelude.{◌&&◌, ◌||◌, is_some, Option, Some, None, filter, flat_map, if◌then◌else◌, map, option_and_then, option_map, unwrap_or}
-use Rattle.std.specs.List.{list_all, list_any}
+use Rattle.std.specs.List.{list_all}
 use Rattle.std.proofs.lemmas.Grind.{flat_map-append}
-use Rattle.std.proofs.lemmas.List.{length-append, map-append}
+use Rattle.std.proofs.lemmas.List.{map-append}
 use Rattle.std.proofs.lemmas.List.Elements.{filter-append}
 use Rattle.std.proofs.lemmas.List.Folds.{list_all-append}
-use Rattle.ep_base.specs.Options.{map_both, on_both}
-use Rattle.ep_base.specs.Reads.{is_too_far}
+use Rattle.ep_base.specs.Options.{map_both}
 use Rattle.ep_base.specs.declared.names.Name.{Name}
-use Rattle.ep_base.specs.declared.places.Place.{Place}
-use Rattle.ep_tree.proofs.EvaluationEquations.{evaluate-comprehension}
-use Rattle.ep_tree.specs.Environments.{Env, scalar_in, with_number}
-use Rattle.ep_tree.specs.Evaluation.{all_hold, all_joined, all_true, are_told, chosen, domain_values, domains_defined, evaluate, holding, index_values, matrix_value, numbered, over_names, reached, standing_for, values_of}
-use Rattle.ep_tree.specs.Limits.{MOST_SIZE, limits_of_values, numbers_at}
-use Rattle.ep_tree.specs.Measures.{Met, a_generator, met, met_all, met_domain, met_generators, met_index, met_names}
-use Rattle.ep_tree.specs.Trees.{DomainTree, ExprTree, ExprTrees, Generators, IndexDomain, comprehension, generator_and, no_generators}
-use Rattle.ep_tree.specs.Values.{ValueTree, all_defined, with_indices}
+use Rattle.ep_tree.specs.Environments.{Env}
+use Rattle.ep_tree.specs.Evaluation.{all_hold, all_joined, all_true, are_told, chosen, domains_defined, evaluate, holding, numbered, over_names, reached, values_of}
+use Rattle.ep_tree.specs.Measures.{Met, a_generator, met, met_all, met_domain, met_generators, met_names}
+use Rattle.ep_tree.specs.Trees.{ExprTree, ExprTrees, Generators, comprehension, generator_and, no_generators}
+use Rattle.ep_tree.specs.Values.{ValueTree, all_defined}
 use Rattle.ep_tree.specs.declared.values.Mode.{Mode}
-use Rattle.ep_eval.proofs.Countings.{cause_more}
-use Rattle.ep_eval.proofs.FormParts.{Meets}
-use Rattle.ep_eval.proofs.Walks.{Walked, walk_begins, walk_cause, walk_ends, walk_more}
-use Rattle.ep_eval.specs.Counting.{Counted, all_but_first}
-use Rattle.ep_eval.specs.Generating.{how_many, listed_nodes, generated_values, lists_joined, nodes_where, part_nodes, part_value, part_where, some_joined}
-use Rattle.ep_eval.specs.Outcomes.{IsCause}
-use Rattle.ep_eval.specs.declared.errors.EvalError.{EvalError}
-
--- ---- nodes in another order
-
--- whether a number at some nodes is too far from 0
-abbrev pub has_far : Mode → List Met → Bool
-has_far mode ms = list_any is_too_far (flat_map (numbers_at mode) ms)
-
--- as many nodes, with a number that is too far where the others have one
-pub record SameNodes (mode : Mode) (ms ns : List Met) : Type 0 where
-  pub count : length ms ≡ length ns
-  pub far : has_far mode ms ≡ has_far mode ns
-
-any_append : (f : ℤ → Bool) (xs ys : List ℤ) → list_any f (xs ++ ys) ≡ (list_any f xs || list_any f ys)
-any_append f [] ys = refl
-any_append f (x ∷ xs) ys = by (f x) (any_append f xs ys)
-  where
-    by : (b : Bool) → list_any f (xs ++ ys) ≡ (list_any f xs || list_any f ys) → (b || list_any f (xs ++ ys)) ≡ ((b || list_any f xs) || list_any f ys)
-    by true h = refl
-    by false h = h
-
-far_append : (mode : Mode) (ms ns : List Met) → has_far mode (ms ++ ns) ≡ (has_far mode ms || has_far mode ns)
-far_append mode ms ns =
-    ap (list_any is_too_far) (flat_map-append (numbers_at mode) ms ns)
-    ∙ any_append is_too_far (flat_map (numbers_at mode) ms) (flat_map (numbers_at mode) ns)
-
-pub same_nodes : (mode : Mode) (ms ns : List Met) → ms ≡ ns → SameNodes mode ms ns
-same_nodes mode ms ns h = record { count = ap length h; far = ap (has_far mode) h }
-
-pub same_then : (mode : Mode) (ms ns os : List Met) → SameNodes mode ms ns → SameNodes mode ns os → SameNodes mode ms os
-same_then mode ms ns os h k = record { count = h.count ∙ k.count; far = h.far ∙ k.far }
-
-pub same_both : (mode : Mode) (a b c d : List Met) → SameNodes mode a c → SameNodes mode b d → SameNodes mode (a ++ b) (c ++ d)
-same_both mode a b c d h k = record {
-  count = omega (arith, h.count, k.count, length-append a b, length-append c d);
-  far = far_append mode a b ∙ ap (λ x. x || has_far mode b) h.far ∙ ap (λ x. has_far mode c || x) k.far ∙ sym (far_append mode c d);
-}
-
-four_bools : (a b c d : Bool) → ((a || b) || (c || d)) ≡ ((a || c) || (b || d))
-four_bools true b c d = refl
-four_bools false true true d = refl
-four_bools false true false d = refl
-four_bools false false c d = refl
-
-far_four : (mode : Mode) (a b c d : List Met) → has_far mode ((a ++ b) ++ (c ++ d)) ≡ ((has_far mode a || has_far mode b) || (has_far mode c || has_far mode d))
-far_four mode a b c d =
-    far_append mode (a ++ b) (c ++ d) ∙ ap (λ x. x || has_far mode (c ++ d)) (far_append mode a b)
-    ∙ ap (λ x. (has_far mode a || has_far mode b) || x) (far_append mode c d)
-
--- four groups of nodes, of which the two in the middle change places
-pub crossed : (mode : Mode) (a b c d : List Met) → SameNodes mode ((a ++ b) ++ (c ++ d)) ((a ++ c) ++ (b ++ d))
-crossed mode a b c d = record {
-  count =
-      let one = length-append (a ++ b) (c ++ d) in
-      let two = length-append (a ++ c) (b ++ d) in
-      omega (arith, one, two, length-append a b, length-append c d, length-append a c, length-append b d);
-  far = far_four mode a b c d ∙ four_bools (has_far mode a) (has_far mode b) (has_far mode c) (has_far mode d) ∙ sym (far_four mode a c b d);
-}
-
-pub counted_same : (mode : Mode) (a b : ℕ) (ms ns : List Met) → SameNodes mode ms ns → Counted mode a b ms → Counted mode a b ns
-counted_same mode a b ms ns h c = record {
-  count = omega (arith, h.count, c.count);
-  small = c.small;
-  near = sym h.far ∙ c.near;
-}
-
-pub cause_same : (mode : Mode) (a : ℕ) (ms ns : List Met) (error : EvalError) → SameNodes mode ms ns → IsCause (limits_of_values mode a ms) error
-    → IsCause (limits_of_values mode a ns) error
-cause_same mode a ms ns error h c = cause_more mode a a ms ns error (omega (arith, h.count)) (λ k. sym h.far ∙ k) c
+use Rattle.ep_eval.proofs.MeterSteps.{SameNodes, crossed, same_both, same_nodes, same_then}
+use Rattle.ep_eval.specs.Generating.{listed_nodes, generated_values, lists_joined, nodes_where, part_nodes, part_value, part_where, some_joined}
 
 -- ---- what generators meet
 
 -- what names meet before what is behind them, and then that, is what they meet with it
 over_many :
-    (mode : Mode) (l g c p : Env → List Met) (r : Env → List Env) (h : Env → Bool)
-    → ((env : Env) → SameNodes mode (l env) ((g env ++ flat_map c (r env)) ++ flat_map p (filter h (r env))))
+    (l g c p : Env → List Met) (r : Env → List Env) (h : Env → Bool)
+    → ((env : Env) → SameNodes (l env) ((g env ++ flat_map c (r env)) ++ flat_map p (filter h (r env))))
     → (envs : List Env)
-    → SameNodes mode (flat_map l envs)
+    → SameNodes (flat_map l envs)
     ((flat_map g envs ++ flat_map c (flat_map (λ xs. xs) (map r envs))) ++ flat_map p (filter h (flat_map (λ xs. xs) (map r envs))))
-over_many mode l g c p r h each [] = same_nodes mode [] [] refl
-over_many mode l g c p r h each (env ∷ envs) =
+over_many l g c p r h each [] = same_nodes [] [] refl
+over_many l g c p r h each (env ∷ envs) =
     let rest : List Env = flat_map (λ xs. xs) (map r envs) in
     let front : List Met = (g env ++ flat_map c (r env)) ++ flat_map p (filter h (r env)) in
     let behind : List Met = (flat_map g envs ++ flat_map c rest) ++ flat_map p (filter h rest) in
-    let parts = same_both mode (l env) (flat_map l envs) front behind (each env) (over_many mode l g c p r h each envs) in
-    let outer = crossed mode (g env ++ flat_map c (r env)) (flat_map p (filter h (r env))) (flat_map g envs ++ flat_map c rest) (flat_map p (filter h rest)) in
-    let inner = crossed mode (g env) (flat_map c (r env)) (flat_map g envs) (flat_map c rest) in
+    let parts = same_both (l env) (flat_map l envs) front behind (each env) (over_many l g c p r h each envs) in
+    let outer = crossed (g env ++ flat_map c (r env)) (flat_map p (filter h (r env))) (flat_map g envs ++ flat_map c rest) (flat_map p (filter h rest)) in
+    let inner = crossed (g env) (flat_map c (r env)) (flat_map g envs) (flat_map c rest) in
     let last : List Met = flat_map p (filter h (r env)) ++ flat_map p (filter h rest) in
     let middle : List Met = flat_map c (r env) ++ flat_map c rest in
-    same_then mode _ _ _ parts
-    (same_then mode _ _ _ outer
-    (same_then mode _ _ _
-    (same_both mode _ last ((g env ++ flat_map g envs) ++ middle) last inner (same_nodes mode last last refl))
-    (same_nodes mode _ _
+    same_then _ _ _ parts
+    (same_then _ _ _ outer
+    (same_then _ _ _
+    (same_both _ last ((g env ++ flat_map g envs) ++ middle) last inner (same_nodes last last refl))
+    (same_nodes _ _
     (ap (λ m. ((g env ++ flat_map g envs) ++ m) ++ last) (sym (flat_map-append c (r env) rest))
     ∙ ap (λ m. ((g env ++ flat_map g envs) ++ flat_map c (r env ++ rest)) ++ m)
     (sym (ap (flat_map p) (filter-append h (r env) rest) ∙ flat_map-append p (filter h (r env)) (filter h rest)))))))
 
 over_one :
-    (mode : Mode) (here : List Name → Env → List Met) (numbers : Name → Env → Option (List Env)) (l g c p : Env → List Met) (r : Env → List Env) (h : Env → Bool)
-    → ((env : Env) → SameNodes mode (l env) ((g env ++ flat_map c (r env)) ++ flat_map p (filter h (r env))))
+    (here : List Name → Env → List Met) (numbers : Name → Env → Option (List Env)) (l g c p : Env → List Met) (r : Env → List Env) (h : Env → Bool)
+    → ((env : Env) → SameNodes (l env) ((g env ++ flat_map c (r env)) ++ flat_map p (filter h (r env))))
     → (names : List Name) (env : Env)
-    → SameNodes mode (met_names here numbers l names env)
+    → SameNodes (met_names here numbers l names env)
     ((met_names here numbers g names env ++ flat_map c (over_names numbers all_joined r names env)) ++ flat_map p (filter h (over_names numbers all_joined r names env)))
 unfolding met_names over_names all_joined
-over_one mode here numbers l g c p r h each [] env = each env
-over_one mode here numbers l g c p r h each (name ∷ names) env =
-    by (over_many mode (met_names here numbers l names) (met_names here numbers g names) c p (over_names numbers all_joined r names) h (over_one mode here numbers l g c p r h each names))
+over_one here numbers l g c p r h each [] env = each env
+over_one here numbers l g c p r h each (name ∷ names) env =
+    by (over_many (met_names here numbers l names) (met_names here numbers g names) c p (over_names numbers all_joined r names) h (over_one here numbers l g c p r h each names))
     (here (name ∷ names) env) (numbers name env)
   where
     by :
-        ((envs : List Env) → SameNodes mode (flat_map (met_names here numbers l names) envs)
+        ((envs : List Env) → SameNodes (flat_map (met_names here numbers l names) envs)
         ((flat_map (met_names here numbers g names) envs ++ flat_map c (flat_map (λ xs. xs) (map (over_names numbers all_joined r names) envs)))
         ++ flat_map p (filter h (flat_map (λ xs. xs) (map (over_names numbers all_joined r names) envs)))))
         → (before : List Met) (o : Option (List Env))
-        → SameNodes mode (before ++ flat_map (met_names here numbers l names) (unwrap_or o []))
+        → SameNodes (before ++ flat_map (met_names here numbers l names) (unwrap_or o []))
         (((before ++ flat_map (met_names here numbers g names) (unwrap_or o []))
         ++ flat_map c (all_joined (option_map (map (over_names numbers all_joined r names)) o)))
         ++ flat_map p (filter h (all_joined (option_map (map (over_names numbers all_joined r names)) o))))
-    by many before None = same_nodes mode _ _ (sym (append-nil ((before ++ []) ++ []) ∙ append-nil (before ++ [])))
+    by many before None = same_nodes _ _ (sym (append-nil ((before ++ []) ++ []) ∙ append-nil (before ++ [])))
     by many before (Some envs) =
         let a : List Met = flat_map (met_names here numbers g names) envs in
         let b : List Met = flat_map c (flat_map (λ xs. xs) (map (over_names numbers all_joined r names) envs)) in
         let d : List Met = flat_map p (filter h (flat_map (λ xs. xs) (map (over_names numbers all_joined r names) envs))) in
-        same_then mode _ _ _
-        (same_both mode before (flat_map (met_names here numbers l names) envs) before ((a ++ b) ++ d) (same_nodes mode before before refl) (many envs))
-        (same_nodes mode _ _ (sym (append_assoc before (a ++ b) d) ∙ ap (λ x. x ++ d) (sym (append_assoc before a b))))
+        same_then _ _ _
+        (same_both before (flat_map (met_names here numbers l names) envs) before ((a ++ b) ++ d) (same_nodes before before refl) (many envs))
+        (same_nodes _ _ (sym (append_assoc before (a ++ b) d) ∙ ap (λ x. x ++ d) (sym (append_assoc before a b))))
 
 filter_one : (h : Env → Bool) (env : Env) (b : Bool) → h env ≡ b → filter h (env ∷ []) ≡ (if b then env ∷ [] else [])
 filter_one h env b e = ap (λ c. if c then env ∷ [] else []) e
 
-one_part : (mode : Mode) (env : Env) (c : List Met) (p : Env → List Met) (h : Env → Bool) (o : Option Bool) → h env ≡ unwrap_or o false
-    → SameNodes mode (c ++ nodes_where o (p env)) (([] ++ (c ++ [])) ++ flat_map p (filter h (env ∷ [])))
+one_part : (env : Env) (c : List Met) (p : Env → List Met) (h : Env → Bool) (o : Option Bool) → h env ≡ unwrap_or o false
+    → SameNodes (c ++ nodes_where o (p env)) (([] ++ (c ++ [])) ++ flat_map p (filter h (env ∷ [])))
 unfolding nodes_where
-one_part mode env c p h None e = same_nodes mode _ _ (sym (ap (λ l. (c ++ []) ++ flat_map p l) (filter_one h env false e) ∙ append-nil (c ++ [])))
-one_part mode env c p h (Some true) e =
-    same_nodes mode _ _
+one_part env c p h None e = same_nodes _ _ (sym (ap (λ l. (c ++ []) ++ flat_map p l) (filter_one h env false e) ∙ append-nil (c ++ [])))
+one_part env c p h (Some true) e =
+    same_nodes _ _
     (sym (ap (λ l. (c ++ []) ++ flat_map p l) (filter_one h env true e) ∙ ap (λ l. l ++ (p env ++ [])) (append-nil c) ∙ ap (λ l. c ++ l) (append-nil (p env))))
-one_part mode env c p h (Some false) e = same_nodes mode _ _ (sym (ap (λ l. (c ++ []) ++ flat_map p l) (filter_one h env false e) ∙ append-nil (c ++ [])))
+one_part env c p h (Some false) e = same_nodes _ _ (sym (ap (λ l. (c ++ []) ++ flat_map p l) (filter_one h env false e) ∙ append-nil (c ++ [])))
 
 -- what is met list of numbers by list of numbers is what the generators meet, and then all conditions, and then all parts
 pub nodes_regrouped : (mode : Mode) (e : ExprTree) (conditions : ExprTrees) (gens : Generators) (env : Env)
-    → SameNodes mode (listed_nodes mode e conditions gens env)
+    → SameNodes (listed_nodes mode e conditions gens env)
     ((met_generators mode env gens ++ flat_map (λ inner. met_all mode inner conditions) (reached mode env gens)) ++ flat_map (λ inner. met mode inner e) (chosen mode env gens conditions))
 unfolding listed_nodes met_generators reached holding part_nodes
 nodes_regrouped mode e conditions no_generators env =
-    one_part mode env (met_all mode env conditions) (λ inner. met mode inner e) (λ inner. unwrap_or (all_true (values_of mode inner conditions)) false)
+    one_part env (met_all mode env conditions) (λ inner. met mode inner e) (λ inner. unwrap_or (all_true (values_of mode inner conditions)) false)
     (all_true (values_of mode env conditions)) refl
 nodes_regrouped mode e conditions (generator_and names d gens) env =
-    over_one mode (λ left inner. a_generator ∷ met_domain mode inner d) (numbered mode d) (listed_nodes mode e conditions gens)
+    over_one (λ left inner. a_generator ∷ met_domain mode inner d) (numbered mode d) (listed_nodes mode e conditions gens)
     (λ inner. met_generators mode inner gens) (λ inner. met_all mode inner conditions) (λ inner. met mode inner e) (λ inner. reached mode inner gens)
     (λ inner. unwrap_or (all_true (values_of mode inner conditions)) false) (nodes_regrouped mode e conditions gens) names env
 

@@ -1,40 +1,31 @@
 -- The walk through the generators of a comprehension, step by step.
 use Rattle.std.proofs.Common.{◌≡◌, ℕ, ◌+◌, ◌<◌, ◌≤◌, Bool, true, false, List, [], ◌∷◌, ◌++◌, length, ℤ, refl, sym, ap, subst, ◌∙◌, append_assoc, append-nil, arith}
-use Rattle.std.specs.Prelude.{◌&&◌, suc, Contains, Option, Some, None, flat_map, if◌then◌else◌, map, option_and_then, option_map, unwrap_or}
-use Rattle.std.proofs.lemmas.List.{length-append}
-use Rattle.std.specs.declared.alloc.Global.{Global}
-use Rattle.std.specs.declared.boxed.Box.{Box}
-use Rattle.std.specs.declared.vec.Vec.{Vec}
+use Rattle.std.specs.Prelude.{◌&&◌, suc, is_some, Option, Some, None, flat_map, if◌then◌else◌, map, option_and_then, option_map, unwrap_or}
 use Rattle.ep_base.proofs.Small.{no_some}
 use Rattle.ep_base.specs.Options.{map_both, on_both}
 use Rattle.ep_base.specs.declared.names.Name.{Name}
-use Rattle.ep_base.specs.declared.operators.Limit.{Limit as LimitName}
 use Rattle.ep_base.specs.declared.places.Place.{Place}
 use Rattle.ep_tree.proofs.EvaluationEquations.{evaluate-comprehension}
-use Rattle.ep_tree.proofs.ViewLemmas.{index_of, kind_tree-comprehension}
 use Rattle.ep_tree.specs.Environments.{Env, scalar_in, with_number}
-use Rattle.ep_tree.specs.Evaluation.{are_told, all_true, chosen, domain_values, domains_defined, evaluate, holding, index_values, matrix_value, numbered, over_names, reached, standing_for, values_of}
-use Rattle.ep_tree.specs.Limits.{MOST_SIZE, limits_of_values, numbers_at}
-use Rattle.ep_tree.specs.Measures.{Met, a_generator, met, met_all, met_domain, met_generators, met_index, met_names}
+use Rattle.ep_tree.specs.Evaluation.{are_told, all_true, chosen, domain_values, domains_defined, evaluate, holding, index_values, matrix_value, over_names, reached, standing_for, values_of}
+use Rattle.ep_tree.specs.Measures.{Met, a_generator, a_node, met, met_all, met_domain, met_generators, met_index, met_names}
 use Rattle.ep_tree.specs.Trees.{DomainTree, ExprTree, ExprTrees, Generators, IndexDomain, comprehension, generator_and, no_generators}
 use Rattle.ep_tree.specs.Values.{ValueTree, all_defined, with_indices}
-use Rattle.ep_tree.specs.Views.{domain_tree, expr_tree, expr_trees, generators_of, kind_tree}
-use Rattle.ep_tree.specs.declared.syntax.Domain.{Domain}
-use Rattle.ep_tree.specs.declared.syntax.Expr.{Expr}
-use Rattle.ep_tree.specs.declared.syntax.Kind.{Comprehension, Kind}
+use Rattle.ep_tree.specs.Views.{domain_tree, generators_of}
 use Rattle.ep_tree.specs.declared.syntax.Generator.{Generator}
 use Rattle.ep_tree.specs.declared.values.Mode.{Mode}
-use Rattle.ep_eval.proofs.Countings.{cause_first, cause_then, counted_append, size_refuses}
-use Rattle.ep_eval.proofs.FormParts.{Meets, form_cause, form_value}
-use Rattle.ep_eval.proofs.GeneratingForms.{SameNodes, cause_same, counted_same, guarded, nodes_regrouped, same_both, same_nodes, values_regrouped}
-use Rattle.ep_eval.proofs.LiteralForms.{index_is}
-use Rattle.ep_eval.proofs.Walks.{Walked, walk_begins, walk_cause, walk_ends, walk_more}
-use Rattle.ep_eval.specs.Counting.{Counted, Evaluated, IsRefused, all_but_first}
-use Rattle.ep_eval.specs.Generating.{how_many, listed_nodes, generated_values, lists_joined, nodes_of, nodes_where, parts_of, part_nodes, part_value, part_where, some_joined}
-use Rattle.ep_eval.specs.Literals.{index_at}
-use Rattle.ep_eval.specs.Outcomes.{IsCause}
-use Rattle.ep_eval.specs.declared.generating.Listing.{Listing}
-use Rattle.ep_eval.specs.declared.errors.EvalError.{EvalError}
+use Rattle.ep_tree.specs.Limits.{numbers_at}
+use Rattle.ep_eval.proofs.GeneratingForms.{guarded, nodes_regrouped, values_regrouped}
+use Rattle.ep_eval.proofs.WorthSteps.{worth_seen}
+use Rattle.ep_eval.specs.Counting.{of_all}
+use Rattle.ep_eval.specs.Helds.{seen_held}
+use Rattle.ep_eval.specs.declared.held.Held.{Held}
+use Rattle.ep_eval.specs.declared.worth.Worth.TheVariants.{Seen}
+use Rattle.ep_eval.proofs.MeterSteps.{SameNodes, counted_passes, far_alone, going_begins, going_ends, going_more, joins, node_stops, node_told, node_walked, same_both, same_nodes, told_as, told_same, told_stops, told_then}
+use Rattle.ep_eval.specs.Meters.{Counts, Going, SettlesWorth, Told}
+use Rattle.ep_eval.specs.Worths.{own_number}
+use Rattle.ep_eval.specs.declared.meter.Meter.{Meter}
+use Rattle.ep_eval.specs.Generating.{how_many, listed_nodes, generated_values, lists_joined, nodes_where, part_nodes, part_value, part_where, some_joined}
 
 -- ---- some lists behind others
 
@@ -121,22 +112,18 @@ nodes_name mode e conditions name names d gens env ns h =
         ap (λ ms. a_generator ∷ (met_domain mode env d ++ ms))
         (inner_flat (listed_nodes mode e conditions (generator_and names d gens)) (λ n. with_number name (scalar_in env d) n env) l)
 
-pub values_some :
-    (mode : Mode) (e : ExprTree) (conditions : ExprTrees) (name : Name) (names : List Name) (d : DomainTree) (gens : Generators) (env : Env) (ns : List ℤ)
-    → domain_values mode env d ≡ Some ns
+-- the parts that they lead to
+pub values_name : (mode : Mode) (e : ExprTree) (conditions : ExprTrees) (name : Name) (names : List Name) (d : DomainTree) (gens : Generators) (env : Env)
     → generated_values mode e conditions (generator_and (name ∷ names) d gens) env
-    ≡ lists_joined (map (λ n. generated_values mode e conditions (generator_and names d gens) (with_number name (scalar_in env d) n env)) ns)
-unfolding generated_values over_names standing_for some_joined
-values_some mode e conditions name names d gens env ns h =
-    ap (λ o. some_joined (option_map (map (generated_values mode e conditions (generator_and names d gens))) (option_map (map (λ n. with_number name (scalar_in env d) n env)) o))) h
-    ∙ ap lists_joined (inner_maps (generated_values mode e conditions (generator_and names d gens)) (λ n. with_number name (scalar_in env d) n env) ns)
-
-pub values_none :
-    (mode : Mode) (e : ExprTree) (conditions : ExprTrees) (name : Name) (names : List Name) (d : DomainTree) (gens : Generators) (env : Env)
-    → domain_values mode env d ≡ None → generated_values mode e conditions (generator_and (name ∷ names) d gens) env ≡ None
-unfolding generated_values over_names standing_for some_joined
-values_none mode e conditions name names d gens env h =
-    ap (λ o. some_joined (option_map (map (generated_values mode e conditions (generator_and names d gens))) (option_map (map (λ n. with_number name (scalar_in env d) n env)) o))) h
+    ≡ some_joined (option_map (map (λ n. generated_values mode e conditions (generator_and names d gens) (with_number name (scalar_in env d) n env))) (domain_values mode env d))
+unfolding generated_values over_names standing_for
+values_name mode e conditions name names d gens env = by (domain_values mode env d)
+  where
+    by : (o : Option (List ℤ))
+        → some_joined (option_map (map (generated_values mode e conditions (generator_and names d gens))) (option_map (map (λ n. with_number name (scalar_in env d) n env)) o))
+        ≡ some_joined (option_map (map (λ n. generated_values mode e conditions (generator_and names d gens) (with_number name (scalar_in env d) n env))) o)
+    by None = refl
+    by (Some ns) = ap (λ l. some_joined (Some l)) (inner_maps (generated_values mode e conditions (generator_and names d gens)) (λ n. with_number name (scalar_in env d) n env) ns)
 
 -- a list of generators in front
 pub generators_first : (all : List Generator) (g : Generator) (later : List Generator) (d : DomainTree) (names : List Name) → all ≡ g ∷ later → domain_tree g.domain ≡ d → g.names.items ≡ names
@@ -149,75 +136,44 @@ pub generators_none : (all : List Generator) → all ≡ [] → generators_of al
 unfolding generators_of
 generators_none all h = ap generators_of h
 
--- ---- counts and causes of one name
+-- ---- one name
 
--- a name of a generator is counted
-pub name_counted : (mode : Mode) (before after : ℕ) → after ≡ before + 1 → after ≤ MOST_SIZE → Counted mode before after (a_generator ∷ [])
+generator_is_plain : (mode : Mode) → numbers_at mode a_generator ≡ []
 unfolding numbers_at
-name_counted mode before after count small = record { count = count; small = small; near = refl }
+generator_is_plain mode = refl
 
-pub name_refused : (mode : Mode) (before : ℕ) (ms : List Met) → MOST_SIZE < before + 1 → Contains (limits_of_values mode before ((a_generator ∷ []) ++ ms)) LimitName.Size
-name_refused mode before ms h =
-    size_refuses mode before ((a_generator ∷ []) ++ ms) (let n = length-append (a_generator ∷ []) ms in omega (arith, h, n))
+-- a name, its domain, and what follows
+pub name_told :
+    (mode : Mode) (e : ExprTree) (conditions : ExprTrees) (name : Name) (names : List Name) (d : DomainTree) (gens : Generators) (env : Env) (a b c f : Meter) (numbers : Option (List ℤ))
+    (values more : Option (List ValueTree))
+    → Told mode a b (met_domain mode env d) (numbers ≡ domain_values mode env d) → b.passed ≡ None
+    → Told mode b c (flat_map (λ n. listed_nodes mode e conditions (generator_and names d gens) (with_number name (scalar_in env d) n env)) (unwrap_or numbers []))
+    (more ≡ before_others values (some_joined (option_map (map (λ n. generated_values mode e conditions (generator_and names d gens) (with_number name (scalar_in env d) n env))) numbers)))
+    → Counts c f
+    → Told mode a f (listed_nodes mode e conditions (generator_and (name ∷ names) d gens) env)
+    (more ≡ before_others values (generated_values mode e conditions (generator_and (name ∷ names) d gens) env))
+name_told mode e conditions name names d gens env a b c f numbers values more domain free all counts =
+    let set : numbers ≡ domain_values mode env d = domain.told free in
+    told_as a f _
+    (node_walked (joins mode) a c f _ a_generator _ (nodes_name mode e conditions name names d gens env numbers (sym set))
+    (told_then (joins mode) a b c _ _ domain all (λ k is. is))
+    (λ none k. counted_passes c f a_generator (far_alone mode a_generator [] (generator_is_plain mode)) counts) counts.stays)
+    (λ known.
+    known
+    ∙ ap (λ o. before_others values (some_joined (option_map (map (λ n. generated_values mode e conditions (generator_and names d gens) (with_number name (scalar_in env d) n env))) o))) set
+    ∙ ap (before_others values) (sym (values_name mode e conditions name names d gens env)))
 
--- a name, its domain and what follows
-pub name_whole : (mode : Mode) (a b c d : ℕ) (ds ms : List Met) → b ≡ a + 1 → b ≤ MOST_SIZE → Counted mode b c ds → Counted mode c d ms
-    → Counted mode a d ((a_generator ∷ []) ++ (ds ++ ms))
-name_whole mode a b c d ds ms count small first second =
-    counted_append mode a b d (a_generator ∷ []) (ds ++ ms) (name_counted mode a b count small) (counted_append mode b c d ds ms first second)
-
-pub name_domain : (mode : Mode) (a b c : ℕ) (ds : List Met) → b ≡ a + 1 → b ≤ MOST_SIZE → Counted mode b c ds → Counted mode a c ((a_generator ∷ []) ++ (ds ++ []))
-name_domain mode a b c ds count small first =
-    subst (λ l. Counted mode a c ((a_generator ∷ []) ++ l)) (sym (append-nil ds))
-    (counted_append mode a b c (a_generator ∷ []) ds (name_counted mode a b count small) first)
-
-pub domain_cause : (mode : Mode) (a b : ℕ) (ds ms : List Met) (error : EvalError) → b ≡ a + 1 → b ≤ MOST_SIZE → IsCause (limits_of_values mode b ds) error
-    → IsCause (limits_of_values mode a ((a_generator ∷ []) ++ (ds ++ ms))) error
-domain_cause mode a b ds ms error count small c =
-    cause_then mode a b (a_generator ∷ []) (ds ++ ms) error (name_counted mode a b count small) (cause_first mode b ds ms error c)
-
-pub behind_cause : (mode : Mode) (a b c : ℕ) (ds ms : List Met) (error : EvalError) → b ≡ a + 1 → b ≤ MOST_SIZE → Counted mode b c ds → IsCause (limits_of_values mode c ms) error
-    → IsCause (limits_of_values mode a ((a_generator ∷ []) ++ (ds ++ ms))) error
-behind_cause mode a b c ds ms error count small first cause =
-    cause_then mode a b (a_generator ∷ []) (ds ++ ms) error (name_counted mode a b count small) (cause_then mode b c ds ms error first cause)
+-- its domain passes a limit
+pub name_stops : {P Q : Type 0} (mode : Mode) (e : ExprTree) (conditions : ExprTrees) (name : Name) (names : List Name) (d : DomainTree) (gens : Generators) (env : Env) (a b : Meter)
+    → Told mode a b (met_domain mode env d) P → is_some b.passed ≡ true → Told mode a b (listed_nodes mode e conditions (generator_and (name ∷ names) d gens) env) Q
+name_stops mode e conditions name names d gens env a b h some =
+    node_stops (joins mode) a b _ a_generator (met_domain mode env d) _ (nodes_name mode e conditions name names d gens env (domain_values mode env d) refl) h some
 
 -- ---- conditions and a part
 
-pub part_counted : (mode : Mode) (e : ExprTree) (conditions : ExprTrees) (env : Env) (a b c : ℕ) → Counted mode a b (met_all mode env conditions)
-    → Some true ≡ all_true (values_of mode env conditions) → Counted mode b c (met mode env e) → Counted mode a c (part_nodes mode e conditions env)
-unfolding part_nodes nodes_where
-part_counted mode e conditions env a b c first holds second =
-    subst (λ o. Counted mode a c (met_all mode env conditions ++ nodes_where o (met mode env e))) holds
-    (counted_append mode a b c (met_all mode env conditions) (met mode env e) first second)
-
-pub no_part_counted : (mode : Mode) (e : ExprTree) (conditions : ExprTrees) (env : Env) (a b : ℕ) (o : Option Bool) → Counted mode a b (met_all mode env conditions)
-    → o ≡ all_true (values_of mode env conditions) → nodes_where o (met mode env e) ≡ [] → Counted mode a b (part_nodes mode e conditions env)
-unfolding part_nodes
-no_part_counted mode e conditions env a b o first is none =
-    subst (λ l. Counted mode a b l)
-    (sym (ap (λ x. met_all mode env conditions ++ nodes_where x (met mode env e)) (sym is) ∙ ap (λ l. met_all mode env conditions ++ l) none ∙ append-nil (met_all mode env conditions)))
-    first
-
-pub no_nodes_none : (ms : List Met) → nodes_where None ms ≡ []
-unfolding nodes_where
-no_nodes_none ms = refl
-
-pub no_nodes_false : (ms : List Met) → nodes_where (Some false) ms ≡ []
-unfolding nodes_where
-no_nodes_false ms = refl
-
-pub conditions_cause : (mode : Mode) (e : ExprTree) (conditions : ExprTrees) (env : Env) (a : ℕ) (error : EvalError) → IsCause (limits_of_values mode a (met_all mode env conditions)) error
-    → IsCause (limits_of_values mode a (part_nodes mode e conditions env)) error
-unfolding part_nodes
-conditions_cause mode e conditions env a error c = cause_first mode a (met_all mode env conditions) (nodes_where (all_true (values_of mode env conditions)) (met mode env e)) error c
-
-pub part_cause : (mode : Mode) (e : ExprTree) (conditions : ExprTrees) (env : Env) (a b : ℕ) (error : EvalError) → Counted mode a b (met_all mode env conditions)
-    → Some true ≡ all_true (values_of mode env conditions) → IsCause (limits_of_values mode b (met mode env e)) error
-    → IsCause (limits_of_values mode a (part_nodes mode e conditions env)) error
-unfolding part_nodes nodes_where
-part_cause mode e conditions env a b error first holds c =
-    subst (λ o. IsCause (limits_of_values mode a (met_all mode env conditions ++ nodes_where o (met mode env e))) error) holds
-    (cause_then mode a b (met_all mode env conditions) (met mode env e) error first c)
+all_of_them : (vs : List (Option ValueTree)) → of_all true vs ≡ all_true vs
+unfolding of_all
+all_of_them vs = refl
 
 pub part_is : (mode : Mode) (e : ExprTree) (conditions : ExprTrees) (env : Env) (values more : Option (List ValueTree)) (seen : Option ValueTree)
     → Some true ≡ all_true (values_of mode env conditions) → evaluate mode env e ≡ seen → more ≡ map_both (λ all one. all ++ one ∷ []) values seen
@@ -237,55 +193,77 @@ pub lost_part_is : (mode : Mode) (e : ExprTree) (conditions : ExprTrees) (env : 
 unfolding part_value part_where
 lost_part_is mode e conditions env values holds = lost_behind values ∙ ap (λ o. before_others values (part_where o (evaluate mode env e))) holds
 
+pub part_told : (mode : Mode) (e : ExprTree) (conditions : ExprTrees) (env : Env) (a b c : Meter) (truth : Option Bool) (values more : Option (List ValueTree)) (seen : Option ValueTree)
+    → Told mode a b (met_all mode env conditions) (truth ≡ of_all true (values_of mode env conditions)) → b.passed ≡ None → truth ≡ Some true
+    → Told mode b c (met mode env e) (evaluate mode env e ≡ seen) → more ≡ map_both (λ all one. all ++ one ∷ []) values seen
+    → Told mode a c (part_nodes mode e conditions env) (more ≡ before_others values (part_value mode e conditions env))
+unfolding part_nodes nodes_where
+part_told mode e conditions env a b c truth values more seen first free is second put =
+    let holds : Some true ≡ all_true (values_of mode env conditions) = sym is ∙ first.told free ∙ all_of_them (values_of mode env conditions) in
+    subst (λ o. Told mode a c (met_all mode env conditions ++ nodes_where o (met mode env e)) (more ≡ before_others values (part_value mode e conditions env))) holds
+    (told_then (joins mode) a b c _ _ first second (λ k value. part_is mode e conditions env values more seen holds value put))
+
+-- no part is wanted
+pub no_part_told : (mode : Mode) (e : ExprTree) (conditions : ExprTrees) (env : Env) (a b : Meter) (truth : Option Bool) (values : Option (List ValueTree))
+    → Told mode a b (met_all mode env conditions) (truth ≡ of_all true (values_of mode env conditions)) → b.passed ≡ None → truth ≡ Some false
+    → Told mode a b (part_nodes mode e conditions env) (values ≡ before_others values (part_value mode e conditions env))
+unfolding part_nodes nodes_where
+no_part_told mode e conditions env a b truth values first free is =
+    let holds : Some false ≡ all_true (values_of mode env conditions) = sym is ∙ first.told free ∙ all_of_them (values_of mode env conditions) in
+    subst (λ o. Told mode a b (met_all mode env conditions ++ nodes_where o (met mode env e)) (values ≡ before_others values (part_value mode e conditions env))) holds
+    (subst (λ l. Told mode a b l (values ≡ before_others values (part_value mode e conditions env))) (sym (append-nil (met_all mode env conditions)))
+    (told_as a b _ first (λ k. no_part_is mode e conditions env values holds)))
+
+-- a condition has no value
+pub lost_part_told : (mode : Mode) (e : ExprTree) (conditions : ExprTrees) (env : Env) (a b : Meter) (truth : Option Bool) (values : Option (List ValueTree))
+    → Told mode a b (met_all mode env conditions) (truth ≡ of_all true (values_of mode env conditions)) → b.passed ≡ None → truth ≡ None
+    → Told mode a b (part_nodes mode e conditions env) (None ≡ before_others values (part_value mode e conditions env))
+unfolding part_nodes nodes_where
+lost_part_told mode e conditions env a b truth values first free is =
+    let holds : None ≡ all_true (values_of mode env conditions) = sym is ∙ first.told free ∙ all_of_them (values_of mode env conditions) in
+    subst (λ o. Told mode a b (met_all mode env conditions ++ nodes_where o (met mode env e)) (None ≡ before_others values (part_value mode e conditions env))) holds
+    (subst (λ l. Told mode a b l (None ≡ before_others values (part_value mode e conditions env))) (sym (append-nil (met_all mode env conditions)))
+    (told_as a b _ first (λ k. lost_part_is mode e conditions env values holds)))
+
+-- a condition passes a limit
+pub conditions_stop : {P Q : Type 0} (mode : Mode) (e : ExprTree) (conditions : ExprTrees) (env : Env) (a b : Meter)
+    → Told mode a b (met_all mode env conditions) P → is_some b.passed ≡ true → Told mode a b (part_nodes mode e conditions env) Q
+unfolding part_nodes
+conditions_stop mode e conditions env a b h some = told_stops (joins mode) a b (met_all mode env conditions) _ h some
+
 -- ---- one number after another
 
 -- for some numbers all is evaluated, and others are left
-pub record ListedSoFar (mode : Mode) (value_at : ℤ → Option (List ValueTree)) (nodes_at : ℤ → List Met) (start now : ℕ) (numbers left : List ℤ) (first values : Option (List ValueTree)) : Type 0 where
-  pub walked : Walked mode start now (flat_map nodes_at numbers) (flat_map nodes_at left)
-  pub value : before_others first (lists_joined (map value_at numbers)) ≡ before_others values (lists_joined (map value_at left))
-  pub small : now ≤ MOST_SIZE
+abbrev pub ListedSoFar : Mode → (ℤ → Option (List ValueTree)) → (ℤ → List Met) → Meter → Meter → List ℤ → List ℤ → Option (List ValueTree) → Option (List ValueTree) → Type 0
+ListedSoFar mode value_at nodes_at start now numbers left first values =
+    Going mode start now (flat_map nodes_at numbers) (flat_map nodes_at left)
+    (before_others first (lists_joined (map value_at numbers)) ≡ before_others values (lists_joined (map value_at left)))
 
-pub listed_begins : (mode : Mode) (value_at : ℤ → Option (List ValueTree)) (nodes_at : ℤ → List Met) (start : ℕ) (numbers left : List ℤ) (first : Option (List ValueTree))
-    → start ≤ MOST_SIZE → left ≡ numbers → ListedSoFar mode value_at nodes_at start start numbers left first first
-listed_begins mode value_at nodes_at start numbers left first h same = record {
-  walked = subst (λ l. Walked mode start start (flat_map nodes_at numbers) (flat_map nodes_at l)) (sym same) (walk_begins mode start (flat_map nodes_at numbers) h);
-  value = ap (λ l. before_others first (lists_joined (map value_at l))) (sym same);
-  small = h;
-}
+pub listed_begins : (mode : Mode) (value_at : ℤ → Option (List ValueTree)) (nodes_at : ℤ → List Met) (start : Meter) (numbers left : List ℤ) (first : Option (List ValueTree))
+    → left ≡ numbers → ListedSoFar mode value_at nodes_at start start numbers left first first
+listed_begins mode value_at nodes_at start numbers left first same =
+    going_begins (joins mode) start _ _ (ap (flat_map nodes_at) same) (ap (λ l. before_others first (lists_joined (map value_at l))) (sym same))
 
 pub listed_goes_on :
-    (mode : Mode) (value_at : ℤ → Option (List ValueTree)) (nodes_at : ℤ → List Met) (start now after : ℕ) (numbers left rest : List ℤ) (first values more : Option (List ValueTree)) (n : ℤ)
+    (mode : Mode) (value_at : ℤ → Option (List ValueTree)) (nodes_at : ℤ → List Met) (start now after : Meter) (numbers left rest : List ℤ) (first values more : Option (List ValueTree)) (n : ℤ)
     → ListedSoFar mode value_at nodes_at start now numbers left first values → left ≡ n ∷ rest
-    → Counted mode now after (nodes_at n) → more ≡ before_others values (value_at n)
+    → Told mode now after (nodes_at n) (more ≡ before_others values (value_at n))
     → ListedSoFar mode value_at nodes_at start after numbers rest first more
 unfolding lists_joined
-listed_goes_on mode value_at nodes_at start now after numbers left rest first values more n h cut counted is = record {
-  walked = walk_more mode start now after _ _ (nodes_at n) _ h.walked (ap (flat_map nodes_at) cut) counted;
-  value =
-      h.value ∙ ap (λ l. before_others values (lists_joined (map value_at l))) cut
-      ∙ regrouped values (value_at n) (lists_joined (map value_at rest))
-      ∙ ap (λ o. before_others o (lists_joined (map value_at rest))) (sym is);
-  small = counted.small;
-}
+listed_goes_on mode value_at nodes_at start now after numbers left rest first values more n going cut told =
+    going_more (joins mode) start now after _ _ (nodes_at n) _ going (ap (flat_map nodes_at) cut) told
+    (λ known is.
+    known ∙ ap (λ l. before_others values (lists_joined (map value_at l))) cut
+    ∙ regrouped values (value_at n) (lists_joined (map value_at rest))
+    ∙ ap (λ o. before_others o (lists_joined (map value_at rest))) (sym is))
 
-pub listed_cause :
-    (mode : Mode) (value_at : ℤ → Option (List ValueTree)) (nodes_at : ℤ → List Met) (start now : ℕ) (numbers left rest : List ℤ) (first values : Option (List ValueTree)) (n : ℤ)
-    → ListedSoFar mode value_at nodes_at start now numbers left first values → left ≡ n ∷ rest
-    → (error : EvalError) → IsCause (limits_of_values mode now (nodes_at n)) error
-    → IsCause (limits_of_values mode start (flat_map nodes_at numbers)) error
-listed_cause mode value_at nodes_at start now numbers left rest first values n h cut error cause =
-    walk_cause mode start now _ _ (nodes_at n) _ h.walked (ap (flat_map nodes_at) cut) error cause
-
-pub listed_counted : (mode : Mode) (value_at : ℤ → Option (List ValueTree)) (nodes_at : ℤ → List Met) (start now : ℕ) (numbers left : List ℤ) (first values : Option (List ValueTree))
-    → ListedSoFar mode value_at nodes_at start now numbers left first values → left ≡ [] → Counted mode start now (flat_map nodes_at numbers)
-listed_counted mode value_at nodes_at start now numbers left first values h none =
-    walk_ends mode start now _ (subst (λ l. Walked mode start now (flat_map nodes_at numbers) (flat_map nodes_at l)) none h.walked)
-
-pub listed_value : (mode : Mode) (value_at : ℤ → Option (List ValueTree)) (nodes_at : ℤ → List Met) (start now : ℕ) (numbers left : List ℤ) (first values : Option (List ValueTree))
-    → ListedSoFar mode value_at nodes_at start now numbers left first values → left ≡ [] → values ≡ before_others first (lists_joined (map value_at numbers))
+pub listed_ends : (mode : Mode) (value_at : ℤ → Option (List ValueTree)) (nodes_at : ℤ → List Met) (start now : Meter) (numbers left : List ℤ) (first values : Option (List ValueTree))
+    → ListedSoFar mode value_at nodes_at start now numbers left first values → left ≡ []
+    → Told mode start now (flat_map nodes_at numbers) (values ≡ before_others first (lists_joined (map value_at numbers)))
 unfolding lists_joined
-listed_value mode value_at nodes_at start now numbers left first values h none =
-    sym (h.value ∙ ap (λ l. before_others values (lists_joined (map value_at l))) none ∙ none_behind values)
+listed_ends mode value_at nodes_at start now numbers left first values going none =
+    going_ends start now _ _ going (ap (flat_map nodes_at) none)
+    (λ known. sym (known ∙ ap (λ l. before_others values (lists_joined (map value_at l))) none ∙ none_behind values))
 
 -- ---- the comprehension
 
@@ -295,15 +273,20 @@ ordered_nodes mode env e gens conditions d =
     ((met_generators mode env gens ++ flat_map (λ inner. met_all mode inner conditions) (reached mode env gens)) ++ flat_map (λ inner. met mode inner e) (chosen mode env gens conditions))
     ++ met_index mode env d
 
-meets_in_order : (mode : Mode) (env : Env) (p : Place) (e : ExprTree) (gens : Generators) (conditions : ExprTrees) (d : IndexDomain)
-    → Meets mode env (comprehension p e gens conditions d) (ordered_nodes mode env e gens conditions d)
-unfolding met all_but_first numbers_at
-meets_in_order mode env p e gens conditions d = record { plain = record { first = refl; own = refl }; parts = refl }
+pub met_in_order : (mode : Mode) (env : Env) (p : Place) (e : ExprTree) (gens : Generators) (conditions : ExprTrees) (d : IndexDomain)
+    → met mode env (comprehension p e gens conditions d) ≡ a_node env (comprehension p e gens conditions d) ∷ ordered_nodes mode env e gens conditions d
+unfolding met
+met_in_order mode env p e gens conditions d = refl
 
-in_order : (mode : Mode) (env : Env) (e : ExprTree) (gens : Generators) (conditions : ExprTrees) (d : IndexDomain)
-    → SameNodes mode (listed_nodes mode e conditions gens env ++ met_index mode env d) (ordered_nodes mode env e gens conditions d)
+numbers_in_order : (mode : Mode) (env : Env) (p : Place) (e : ExprTree) (gens : Generators) (conditions : ExprTrees) (d : IndexDomain)
+    → numbers_at mode (a_node env (comprehension p e gens conditions d)) ≡ own_number (evaluate mode env (comprehension p e gens conditions d))
+unfolding numbers_at
+numbers_in_order mode env p e gens conditions d = refl
+
+pub in_order : (mode : Mode) (env : Env) (e : ExprTree) (gens : Generators) (conditions : ExprTrees) (d : IndexDomain)
+    → SameNodes (listed_nodes mode e conditions gens env ++ met_index mode env d) (ordered_nodes mode env e gens conditions d)
 in_order mode env e gens conditions d =
-    same_both mode _ _ _ _ (nodes_regrouped mode e conditions gens env) (same_nodes mode (met_index mode env d) (met_index mode env d) refl)
+    same_both (listed_nodes mode e conditions gens env) (met_index mode env d) _ (met_index mode env d) (nodes_regrouped mode e conditions gens env) (same_nodes (met_index mode env d) (met_index mode env d) refl)
 
 lost : (o : Option (List ℤ)) → ◌≡◌ {A = Option ValueTree} None (on_both o None with_indices)
 unfolding on_both
@@ -347,67 +330,18 @@ comprehension_is mode env p e gens conditions d set values count told many own =
     by false parts h = lost set ∙ ap (λ o. on_both set o with_indices) (sym h)
     by true parts h = cases parts h (all_defined parts) refl
 
--- ---- the comprehension of the code
-
--- a comprehension of the code
-abbrev pub comprehension_tree : Place → Listing → List Generator → Option (Box Domain Global) → ExprTree
-comprehension_tree p l gens d = comprehension p (expr_tree l.body.now) (generators_of gens) (expr_trees l.conditions.now) (index_at d)
-
--- a kind that is a comprehension, with its parts as they are lent
-pub record IsComprehension (k : Kind) (l : Listing) (gens : List Generator) (d : Option (Box Domain Global)) : Type 0 where
-  pub tree : (p : Place) → kind_tree p k ≡ comprehension_tree p l gens d
-
-pub comprehension_at :
-    (k : Kind) (e : Box Expr Global) (gens : Vec Generator Global) (v : Vec Expr Global) (d : Option (Box Domain Global)) (l : Listing) (lent : List Generator)
-    → k ≡ Comprehension e gens v d → l.body.now ≡ e.value → l.conditions.now ≡ v.items → lent ≡ gens.items
-    → IsComprehension k l lent d
-comprehension_at k e gens v d l lent is body conditions generators = record {
-  tree = λ p.
-      ap (kind_tree p) is ∙ kind_tree-comprehension p e gens v d
-      ∙ ap (λ x. comprehension p (expr_tree x) (generators_of gens.items) (expr_trees v.items) (index_of d)) (sym body)
-      ∙ ap (λ x. comprehension p (expr_tree l.body.now) (generators_of x) (expr_trees v.items) (index_of d)) (sym generators)
-      ∙ ap (λ x. comprehension p (expr_tree l.body.now) (generators_of lent) (expr_trees x) (index_of d)) (sym conditions)
-      ∙ ap (λ x. comprehension p (expr_tree l.body.now) (generators_of lent) (expr_trees l.conditions.now) x) (index_is d);
-}
-
-pub comprehension_value :
-    (mode : Mode) (env : Env) (k : Kind) (l : Listing) (gens : List Generator) (d : Option (Box Domain Global)) (a b c : ℕ) (set : Option (List ℤ)) (first values : Option (List ValueTree)) (count : ℕ)
-    (made : Option ValueTree)
-    → IsComprehension k l gens d
-    → Counted mode a b (nodes_of mode l (generators_of gens) env) → Counted mode b c (met_index mode env (index_at d))
-    → first ≡ Some [] → values ≡ before_others first (parts_of mode l (generators_of gens) env)
-    → count ≡ how_many values → set ≡ index_values mode env (index_at d) count → made ≡ on_both set values with_indices
-    → (p : Place) → Evaluated mode env (kind_tree p k) a c made
-comprehension_value mode env k l gens d a b c set first values count made is nodes index nothing told many own whole =
-    let e : ExprTree = expr_tree l.body.now in
-    let cs : ExprTrees = expr_trees l.conditions.now in
-    let gs : Generators = generators_of gens in
-    form_value mode env (ordered_nodes mode env e gs cs (index_at d)) a c made (λ p. comprehension_tree p l gens d) k is.tree
-    (λ p. meets_in_order mode env p e gs cs (index_at d))
-    (counted_same mode a c _ _ (in_order mode env e gs cs (index_at d)) (counted_append mode a b c (listed_nodes mode e cs gs env) (met_index mode env (index_at d)) nodes index))
-    (λ p. comprehension_is mode env p e gs cs (index_at d) set values count
-    (told ∙ ap (λ o. before_others o (generated_values mode e cs gs env)) nothing ∙ sym (none_before (generated_values mode e cs gs env))) many own ∙ sym whole)
-
-pub comprehension_first :
-    (mode : Mode) (env : Env) (k : Kind) (l : Listing) (gens : List Generator) (d : Option (Box Domain Global)) (a : ℕ) (error : EvalError)
-    → IsComprehension k l gens d → IsCause (limits_of_values mode a (nodes_of mode l (generators_of gens) env)) error
-    → (p : Place) → IsRefused mode env (kind_tree p k) a error
-comprehension_first mode env k l gens d a error is cause =
-    let e : ExprTree = expr_tree l.body.now in
-    let cs : ExprTrees = expr_trees l.conditions.now in
-    let gs : Generators = generators_of gens in
-    form_cause mode env (ordered_nodes mode env e gs cs (index_at d)) a (λ p. comprehension_tree p l gens d) k is.tree
-    (λ p. meets_in_order mode env p e gs cs (index_at d)) error
-    (cause_same mode a _ _ error (in_order mode env e gs cs (index_at d)) (cause_first mode a (listed_nodes mode e cs gs env) (met_index mode env (index_at d)) error cause))
-
-pub comprehension_second :
-    (mode : Mode) (env : Env) (k : Kind) (l : Listing) (gens : List Generator) (d : Option (Box Domain Global)) (a b : ℕ) (error : EvalError)
-    → IsComprehension k l gens d → Counted mode a b (nodes_of mode l (generators_of gens) env) → IsCause (limits_of_values mode b (met_index mode env (index_at d))) error
-    → (p : Place) → IsRefused mode env (kind_tree p k) a error
-comprehension_second mode env k l gens d a b error is nodes cause =
-    let e : ExprTree = expr_tree l.body.now in
-    let cs : ExprTrees = expr_trees l.conditions.now in
-    let gs : Generators = generators_of gens in
-    form_cause mode env (ordered_nodes mode env e gs cs (index_at d)) a (λ p. comprehension_tree p l gens d) k is.tree
-    (λ p. meets_in_order mode env p e gs cs (index_at d)) error
-    (cause_same mode a _ _ error (in_order mode env e gs cs (index_at d)) (cause_then mode a b (listed_nodes mode e cs gs env) (met_index mode env (index_at d)) error nodes cause))
+pub comprehension_told :
+    (mode : Mode) (env : Env) (p : Place) (e : ExprTree) (gens : Generators) (conditions : ExprTrees) (d : IndexDomain) (a b c f : Meter) (set : Option (List ℤ)) (first values : Option (List ValueTree)) (count : ℕ)
+    (made seen : Option Held)
+    → first ≡ Some [] → Told mode a b (listed_nodes mode e conditions gens env) (values ≡ before_others first (generated_values mode e conditions gens env)) → count ≡ how_many values
+    → Told mode b c (met_index mode env d) (set ≡ index_values mode env d count) → seen_held made ≡ on_both set values with_indices → SettlesWorth c f (Seen made) seen
+    → Told mode a f (met mode env (comprehension p e gens conditions d)) (evaluate mode env (comprehension p e gens conditions d) ≡ seen_held seen)
+comprehension_told mode env p e gens conditions d a b c f set first values count made seen nothing nodes many index whole settles =
+    node_told mode a c f _ (a_node env (comprehension p e gens conditions d)) _ _ (evaluate mode env (comprehension p e gens conditions d)) (Seen made) seen
+    (met_in_order mode env p e gens conditions d) (numbers_in_order mode env p e gens conditions d)
+    (told_same (joins mode) a c _ _ (in_order mode env e gens conditions d)
+    (told_then (joins mode) a b c _ _ nodes index
+    (λ told own. worth_seen (evaluate mode env (comprehension p e gens conditions d)) made
+    (whole ∙ sym (comprehension_is mode env p e gens conditions d set values count
+    (told ∙ ap (λ o. before_others o (generated_values mode e conditions gens env)) nothing ∙ sym (none_before (generated_values mode e conditions gens env))) many own)))))
+    (λ w. w) settles

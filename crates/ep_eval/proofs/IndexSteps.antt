@@ -7,39 +7,33 @@ use Rattle.std.proofs.lemmas.List.{append-nil}
 use Rattle.ep_base.specs.Options.{map_both}
 use Rattle.ep_tree.specs.Environments.{Env}
 use Rattle.ep_tree.specs.Evaluation.{end_value, evaluate, index_list, number_in}
-use Rattle.ep_tree.specs.Limits.{MOST_SIZE, limits_of_values}
 use Rattle.ep_tree.specs.Measures.{met_end, met_indices}
 use Rattle.ep_tree.specs.Values.{Index, any_index, at_index, index_in, indices_in}
 use Rattle.ep_tree.specs.Views.{end_of, expr_tree, indices_of}
 use Rattle.ep_tree.specs.declared.syntax.Expr.{Expr}
 use Rattle.ep_tree.specs.declared.values.Mode.{Mode}
-use Rattle.ep_eval.proofs.Walks.{Walked, walk_begins, walk_cause, walk_ends, walk_more}
-use Rattle.ep_eval.specs.Counting.{Counted}
-use Rattle.ep_eval.specs.Outcomes.{IsCause}
+use Rattle.ep_eval.proofs.MeterSteps.{going_begins, going_ends, going_more, joins}
+use Rattle.ep_eval.specs.Meters.{Going, Told}
+use Rattle.ep_eval.specs.declared.meter.Meter.{Meter}
 use Rattle.ep_eval.specs.Reading.{with_index}
-use Rattle.ep_eval.specs.declared.errors.EvalError.{EvalError}
 
 -- the values of some indices before those of others
 abbrev pub joined_indices : Option (List (Option ℤ)) → Option (List Index) → Option (List Index)
 joined_indices values left = map_both (λ is js. indices_in is ++ js) values left
 
 -- some indices are evaluated, and others are left
-pub record IndicesSoFar (mode : Mode) (env : Env) (start now : ℕ) (all left : List (Option Expr)) (values : Option (List (Option ℤ))) : Type 0 where
-  pub walked : Walked mode start now (met_indices mode env (indices_of all)) (met_indices mode env (indices_of left))
-  pub value : index_list mode env (indices_of all) ≡ joined_indices values (index_list mode env (indices_of left))
-  pub small : now ≤ MOST_SIZE
+abbrev pub IndicesSoFar : Mode → Env → Meter → Meter → List (Option Expr) → List (Option Expr) → Option (List (Option ℤ)) → Type 0
+IndicesSoFar mode env start now all left values =
+    Going mode start now (met_indices mode env (indices_of all)) (met_indices mode env (indices_of left))
+    (index_list mode env (indices_of all) ≡ joined_indices values (index_list mode env (indices_of left)))
 
 none_before : (o : Option (List Index)) → o ≡ joined_indices (Some []) o
 unfolding map_both
 none_before None = refl
 none_before (Some js) = refl
 
-pub indices_begin : (mode : Mode) (env : Env) (start : ℕ) (all : List (Option Expr)) → start ≤ MOST_SIZE → IndicesSoFar mode env start start all all (Some [])
-indices_begin mode env start all h = record {
-  walked = walk_begins mode start (met_indices mode env (indices_of all)) h;
-  value = none_before (index_list mode env (indices_of all));
-  small = h;
-}
+pub indices_begin : (mode : Mode) (env : Env) (start : Meter) (all : List (Option Expr)) → IndicesSoFar mode env start start all all (Some [])
+indices_begin mode env start all = going_begins (joins mode) start _ _ refl (none_before (index_list mode env (indices_of all)))
 
 met_cons : (mode : Mode) (env : Env) (i : Option Expr) (rest : List (Option Expr)) → met_indices mode env (indices_of (i ∷ rest)) ≡ met_end mode env (end_of i) ++ met_indices mode env (indices_of rest)
 unfolding met_indices indices_of end_of
@@ -71,42 +65,35 @@ one_more mode env None i rest = refl
 one_more mode env (Some is) None rest = every_one is (index_list mode env (indices_of rest))
 one_more mode env (Some is) (Some e) rest = stated_one is (number_in (evaluate mode env (expr_tree e))) (index_list mode env (indices_of rest))
 
-pub indices_more : (mode : Mode) (env : Env) (start now after : ℕ) (all left : List (Option Expr)) (i : Option Expr) (rest : List (Option Expr)) (values more : Option (List (Option ℤ))) (n : Option ℤ)
-    → IndicesSoFar mode env start now all left values → left ≡ i ∷ rest → Counted mode now after (met_end mode env (end_of i))
-    → n ≡ end_value mode env (end_of i) → more ≡ with_index values (is_some i) n → IndicesSoFar mode env start after all rest more
-indices_more mode env start now after all left i rest values more n h cut counted value is = record {
-  walked = walk_more mode start now after _ _ (met_end mode env (end_of i)) _ h.walked (ap (λ l. met_indices mode env (indices_of l)) cut ∙ met_cons mode env i rest) counted;
-  value =
-      h.value ∙ ap (λ l. joined_indices values (index_list mode env (indices_of l))) cut ∙ one_more mode env values i rest
-      ∙ ap (λ m. joined_indices (with_index values (is_some i) m) (index_list mode env (indices_of rest))) (sym value)
-      ∙ ap (λ o. joined_indices o (index_list mode env (indices_of rest))) (sym is);
-  small = counted.small;
-}
-
-pub indices_cause : (mode : Mode) (env : Env) (start now : ℕ) (all left : List (Option Expr)) (i : Option Expr) (rest : List (Option Expr)) (values : Option (List (Option ℤ)))
-    → IndicesSoFar mode env start now all left values → left ≡ i ∷ rest
-    → (error : EvalError) → IsCause (limits_of_values mode now (met_end mode env (end_of i))) error
-    → IsCause (limits_of_values mode start (met_indices mode env (indices_of all))) error
-indices_cause mode env start now all left i rest values h cut error cause =
-    walk_cause mode start now _ _ (met_end mode env (end_of i)) _ h.walked (ap (λ l. met_indices mode env (indices_of l)) cut ∙ met_cons mode env i rest) error cause
-
-pub indices_counted : (mode : Mode) (env : Env) (start now : ℕ) (all left : List (Option Expr)) (values : Option (List (Option ℤ)))
-    → IndicesSoFar mode env start now all left values → left ≡ [] → Counted mode start now (met_indices mode env (indices_of all))
-unfolding met_indices indices_of
-indices_counted mode env start now all left values h none =
-    walk_ends mode start now _ (subst (λ l. Walked mode start now (met_indices mode env (indices_of all)) (met_indices mode env (indices_of l))) none h.walked)
+pub indices_more : (mode : Mode) (env : Env) (start now after : Meter) (all left : List (Option Expr)) (i : Option Expr) (rest : List (Option Expr)) (values more : Option (List (Option ℤ))) (n : Option ℤ)
+    → IndicesSoFar mode env start now all left values → left ≡ i ∷ rest → Told mode now after (met_end mode env (end_of i)) (n ≡ end_value mode env (end_of i))
+    → more ≡ with_index values (is_some i) n → IndicesSoFar mode env start after all rest more
+indices_more mode env start now after all left i rest values more n g cut told is =
+    going_more (joins mode) start now after _ _ (met_end mode env (end_of i)) _ g (ap (λ l. met_indices mode env (indices_of l)) cut ∙ met_cons mode env i rest) told
+    (λ known value.
+    known ∙ ap (λ l. joined_indices values (index_list mode env (indices_of l))) cut ∙ one_more mode env values i rest
+    ∙ ap (λ m. joined_indices (with_index values (is_some i) m) (index_list mode env (indices_of rest))) (sym value)
+    ∙ ap (λ o. joined_indices o (index_list mode env (indices_of rest))) (sym is))
 
 none_behind : (values : Option (List (Option ℤ))) → joined_indices values (Some []) ≡ option_map (λ is. indices_in is) values
 unfolding map_both
 none_behind None = refl
 none_behind (Some is) = ap Some (append-nil (indices_in is))
 
-pub indices_value : (mode : Mode) (env : Env) (start now : ℕ) (all left : List (Option Expr)) (values : Option (List (Option ℤ)))
-    → IndicesSoFar mode env start now all left values → left ≡ [] → option_map (λ is. indices_in is) values ≡ index_list mode env (indices_of all)
-unfolding index_list indices_of
-indices_value mode env start now all left values h none =
-    sym (h.value ∙ ap (λ l. joined_indices values (index_list mode env (indices_of l))) none ∙ none_behind values)
-
-pub in_option : (o : Option (Vec (Option ℤ) Global)) → option_map (λ v. indices_in v.items) o ≡ option_map (λ is. indices_in is) (option_map (λ v. v.items) o)
+in_option : (o : Option (Vec (Option ℤ) Global)) → option_map (λ v. indices_in v.items) o ≡ option_map (λ is. indices_in is) (option_map (λ v. v.items) o)
 in_option None = refl
 in_option (Some v) = refl
+
+no_indices_left : (mode : Mode) (env : Env) (left : List (Option Expr)) → left ≡ [] → met_indices mode env (indices_of left) ≡ []
+unfolding met_indices indices_of
+no_indices_left mode env left none = ap (λ l. met_indices mode env (indices_of l)) none
+
+pub indices_end : (mode : Mode) (env : Env) (start now : Meter) (all left : List (Option Expr)) (values : Option (Vec (Option ℤ) Global))
+    → IndicesSoFar mode env start now all left (option_map (λ v. v.items) values) → left ≡ []
+    → Told mode start now (met_indices mode env (indices_of all)) (option_map (λ v. indices_in v.items) values ≡ index_list mode env (indices_of all))
+unfolding index_list indices_of
+indices_end mode env start now all left values g none =
+    going_ends start now _ _ g (no_indices_left mode env left none)
+    (λ known.
+    in_option values
+    ∙ sym (known ∙ ap (λ l. joined_indices (option_map (λ v. v.items) values) (index_list mode env (indices_of l))) none ∙ none_behind (option_map (λ v. v.items) values)))

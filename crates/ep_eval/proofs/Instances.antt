@@ -2,41 +2,29 @@
 use Rattle.std.proofs.Common.{◌≡◌, ℕ, ◌+◌, ◌*◌, ◌≤◌, Bool, true, false, List, [], ◌∷◌, ◌++◌, length, ℤ, pos, ◌+ℤ◌, refl, sym, ap, subst, arith, inl, inr, ◌∙◌}
 use Rattle.std.specs.Prelude.{Contains, IfErr, IfOk, OnOk, Option, Result, Ok, Err, Some, None, flat_map, map, option_map, unwrap_or}
 use Rattle.std.proofs.lemmas.Int.{ints}
-use Rattle.std.proofs.lemmas.List.{append-nil}
 use Rattle.ep_base.specs.Numbers.{sum_of}
-use Rattle.ep_base.specs.Reads.{is_too_far}
 use Rattle.ep_base.specs.declared.names.Name.{Name}
-use Rattle.ep_base.specs.declared.operators.Limit.{Limit as LimitName}
 use Rattle.ep_base.specs.declared.places.Place.{Place}
 use Rattle.ep_tree.specs.Environments.{Env, scalar_in, with_number}
 use Rattle.ep_tree.specs.Evaluation.{all_numbers, domain_values, evaluate, number_in, over_names, quantified_value, signed, standing_for, truth_of}
-use Rattle.ep_tree.specs.Limits.{MOST_SIZE, limits_of_values, numbers_at}
-use Rattle.ep_tree.specs.Measures.{Met, met, met_domain, met_names}
+use Rattle.ep_tree.specs.Measures.{Met, a_node, met, met_domain, met_names}
 use Rattle.ep_tree.specs.Trees.{DomainTree, ExprTree, quantified}
 use Rattle.ep_tree.specs.Values.{ValueTree, all_defined}
 use Rattle.ep_tree.specs.declared.syntax.QuantOp.{QuantOp}
 use Rattle.ep_tree.specs.declared.values.Mode.{Mode}
-use Rattle.ep_tree.specs.declared.syntax.Domain.{Domain}
-use Rattle.ep_tree.specs.declared.syntax.Expr.{Expr}
-use Rattle.ep_tree.specs.declared.syntax.Kind.{Quant}
-use Rattle.ep_tree.specs.Views.{domain_tree, expr_tree, kind_tree}
-use Rattle.ep_tree.proofs.ViewLemmas.{kind_tree-quantified}
-use Rattle.std.specs.declared.alloc.Global.{Global}
-use Rattle.std.specs.declared.boxed.Box.{Box}
-use Rattle.std.specs.declared.vec.Vec.{Vec}
-use Rattle.ep_eval.proofs.FormParts.{Meets, node_of}
 use Rattle.ep_eval.proofs.PartSteps.{last_unit, of_all_more, of_none, regrouped}
 use Rattle.ep_eval.proofs.TermSteps.{nothing_behind, total_more, total_regrouped, wider}
-use Rattle.ep_eval.proofs.Walks.{Walked, walk_begins, walk_cause, walk_ends, walk_more}
-use Rattle.std.specs.List.{list_any}
 use Rattle.ep_base.specs.Options.{map_both}
-use Rattle.ep_eval.specs.Counting.{Counted, Evaluated, Gives, IsRefused, IsTooFar, IsWithin, all_but_first, is_far_value, of_all, together}
+use Rattle.ep_tree.specs.Limits.{numbers_at}
+use Rattle.ep_eval.specs.Counting.{IsWithin, of_all, together}
+use Rattle.ep_eval.specs.Gathering.{IsSmall, gathered_of, gathered_with_more, none_at_all, nothing_yet, worth}
 use Rattle.ep_eval.specs.Helds.{seen_held}
+use Rattle.ep_eval.specs.Worths.{own_number}
+use Rattle.ep_eval.specs.declared.worth.Worth.{Worth}
+use Rattle.ep_eval.proofs.MeterSteps.{going_begins, going_ends, going_more_at, joins, node_told, told_then}
+use Rattle.ep_eval.specs.Meters.{Going, IsWorth, SettlesWorth, Told}
+use Rattle.ep_eval.specs.declared.meter.Meter.{Meter}
 use Rattle.ep_eval.specs.declared.held.Held.{Held}
-use Rattle.ep_eval.specs.Gathering.{IsSmall, none_at_all, nothing_yet, gathered_with_more, worth}
-use Rattle.ep_eval.specs.Outcomes.{IsCause}
-use Rattle.ep_eval.specs.declared.errors.EvalError.{EvalError}
-use Rattle.ep_eval.specs.declared.errors.EvalError.TheVariants.{Limit, Memory}
 use Rattle.ep_eval.specs.declared.gathering.Gathered.{Gathered}
 use Rattle.ep_eval.specs.declared.gathering.Gathered.TheVariants.{Truths, Total}
 
@@ -135,61 +123,48 @@ small_before n QuantOp.Sum = omega arith
 
 -- ---- one instance after another
 
+-- what is gathered stays exact, and as small as one number more allows
+abbrev pub GathersUp : Gathered → Option ValueTree → Gathered → Type 0
+GathersUp g seen more =
+    (most : ℕ) → most ≤ 46116860184273879040000000 → IsSmall most g → (more ≡ gathered_with_more g (seen ∷ [])) × IsSmall (most + 9223372036854775808) more
+
 -- some instances are evaluated, and others are left
-pub record Gathering (mode : Mode) (op : QuantOp) (value_at : ℤ → Option ValueTree) (nodes_at : ℤ → List Met) (start now : ℕ) (numbers left : List ℤ) (g : Gathered) : Type 0 where
-  pub walked : Walked mode start now (flat_map nodes_at numbers) (flat_map nodes_at left)
-  pub value : gathered_with_more (nothing_yet op) (map value_at numbers) ≡ gathered_with_more g (map value_at left)
-  pub within : IsSmall (now * 9223372036854775808) g
-  pub small : now ≤ MOST_SIZE
+abbrev pub Gathering : Mode → QuantOp → (ℤ → Option ValueTree) → (ℤ → List Met) → Meter → Meter → List ℤ → List ℤ → Gathered → Type 0
+Gathering mode op value_at nodes_at start now numbers left g =
+    Going mode start now (flat_map nodes_at numbers) (flat_map nodes_at left)
+    ((gathered_with_more (nothing_yet op) (map value_at numbers) ≡ gathered_with_more g (map value_at left)) × IsSmall (now.size * 9223372036854775808) g)
 
-pub gathering_begins : (mode : Mode) (op : QuantOp) (value_at : ℤ → Option ValueTree) (nodes_at : ℤ → List Met) (start : ℕ) (numbers left : List ℤ) (g : Gathered)
-    → start ≤ MOST_SIZE → left ≡ numbers → g ≡ nothing_yet op → Gathering mode op value_at nodes_at start start numbers left g
-gathering_begins mode op value_at nodes_at start numbers left g h same is = record {
-  walked = subst (λ l. Walked mode start start (flat_map nodes_at numbers) (flat_map nodes_at l)) (sym same) (walk_begins mode start (flat_map nodes_at numbers) h);
-  value = ap (λ l. gathered_with_more (nothing_yet op) (map value_at l)) (sym same) ∙ ap (λ x. gathered_with_more x (map value_at left)) (sym is);
-  within = subst (IsSmall (start * 9223372036854775808)) (sym is) (small_before (start * 9223372036854775808) op);
-  small = h;
-}
+pub gathering_begins : (mode : Mode) (op : QuantOp) (value_at : ℤ → Option ValueTree) (nodes_at : ℤ → List Met) (start : Meter) (numbers left : List ℤ) (g : Gathered)
+    → left ≡ numbers → g ≡ nothing_yet op → Gathering mode op value_at nodes_at start start numbers left g
+gathering_begins mode op value_at nodes_at start numbers left g same is =
+    going_begins (joins mode) start _ _ (ap (flat_map nodes_at) same) (
+      ap (λ l. gathered_with_more (nothing_yet op) (map value_at l)) (sym same) ∙ ap (λ x. gathered_with_more x (map value_at left)) (sym is),
+      subst (IsSmall (start.size * 9223372036854775808)) (sym is) (small_before (start.size * 9223372036854775808) op),
+    )
 
-pub gathering_small : (mode : Mode) (op : QuantOp) (value_at : ℤ → Option ValueTree) (nodes_at : ℤ → List Met) (start now : ℕ) (numbers left : List ℤ) (g : Gathered)
-    → Gathering mode op value_at nodes_at start now numbers left g → IsSmall 46116860184273879040000000 g
-gathering_small mode op value_at nodes_at start now numbers left g h =
-    small_wider (now * 9223372036854775808) 46116860184273879040000000 g (let s = h.small in omega (arith, s)) h.within
-
-pub gathering_goes_on : (mode : Mode) (op : QuantOp) (value_at : ℤ → Option ValueTree) (nodes_at : ℤ → List Met) (start now after : ℕ) (numbers left rest : List ℤ) (g more : Gathered) (n : ℤ) (seen : Option ValueTree)
+pub gathering_goes_on :
+    (mode : Mode) (op : QuantOp) (value_at : ℤ → Option ValueTree) (nodes_at : ℤ → List Met) (start now after : Meter) (numbers left rest : List ℤ) (g more : Gathered) (n : ℤ) (seen : Option ValueTree)
     → Gathering mode op value_at nodes_at start now numbers left g → left ≡ n ∷ rest
-    → Counted mode now after (nodes_at n) → value_at n ≡ seen → 1 ≤ length (nodes_at n)
-    → more ≡ gathered_with_more g (seen ∷ []) → ((most : ℕ) → IsSmall most g → IsSmall (most + 9223372036854775808) more)
-    → Gathering mode op value_at nodes_at start after numbers rest more
-gathering_goes_on mode op value_at nodes_at start now after numbers left rest g more n seen h cut counted value some is within = record {
-  walked = walk_more mode start now after _ _ (nodes_at n) _ h.walked (ap (flat_map nodes_at) cut) counted;
-  value =
-      h.value ∙ ap (λ l. gathered_with_more g (map value_at l)) cut ∙ more_one g (value_at n) (map value_at rest)
-      ∙ ap (λ v. gathered_with_more (gathered_with_more g (v ∷ [])) (map value_at rest)) value
-      ∙ ap (λ x. gathered_with_more x (map value_at rest)) (sym is);
-  within =
-      small_wider (now * 9223372036854775808 + 9223372036854775808) (after * 9223372036854775808) more
-      (let count = counted.count in omega (arith, some, count))
-      (within (now * 9223372036854775808) h.within);
-  small = counted.small;
-}
+    → Told mode now after (nodes_at n) (value_at n ≡ seen) → 1 ≤ length (nodes_at n)
+    → GathersUp g seen more → Gathering mode op value_at nodes_at start after numbers rest more
+gathering_goes_on mode op value_at nodes_at start now after numbers left rest g more n seen going cut told some gathers =
+    going_more_at (joins mode) start now after _ _ (nodes_at n) _ going (ap (flat_map nodes_at) cut) told
+    (λ went known value.
+    let count = went.count in
+    let small = went.small some in
+    let next = gathers (now.size * 9223372036854775808) (omega (arith, some, count, small)) known.1 in (
+      known.0 ∙ ap (λ l. gathered_with_more g (map value_at l)) cut ∙ more_one g (value_at n) (map value_at rest)
+          ∙ ap (λ v. gathered_with_more (gathered_with_more g (v ∷ [])) (map value_at rest)) value
+          ∙ ap (λ x. gathered_with_more x (map value_at rest)) (sym next.0),
+      small_wider (now.size * 9223372036854775808 + 9223372036854775808) (after.size * 9223372036854775808) more (omega (arith, some, count)) next.1,
+    ))
 
-pub gathering_cause : (mode : Mode) (op : QuantOp) (value_at : ℤ → Option ValueTree) (nodes_at : ℤ → List Met) (start now : ℕ) (numbers left rest : List ℤ) (g : Gathered) (n : ℤ)
-    → Gathering mode op value_at nodes_at start now numbers left g → left ≡ n ∷ rest
-    → (error : EvalError) → IsCause (limits_of_values mode now (nodes_at n)) error
-    → IsCause (limits_of_values mode start (flat_map nodes_at numbers)) error
-gathering_cause mode op value_at nodes_at start now numbers left rest g n h cut error cause =
-    walk_cause mode start now _ _ (nodes_at n) _ h.walked (ap (flat_map nodes_at) cut) error cause
-
-pub gathering_counted : (mode : Mode) (op : QuantOp) (value_at : ℤ → Option ValueTree) (nodes_at : ℤ → List Met) (start now : ℕ) (numbers left : List ℤ) (g : Gathered)
-    → Gathering mode op value_at nodes_at start now numbers left g → left ≡ [] → Counted mode start now (flat_map nodes_at numbers)
-gathering_counted mode op value_at nodes_at start now numbers left g h none =
-    walk_ends mode start now _ (subst (λ l. Walked mode start now (flat_map nodes_at numbers) (flat_map nodes_at l)) none h.walked)
-
-pub gathering_value : (mode : Mode) (op : QuantOp) (value_at : ℤ → Option ValueTree) (nodes_at : ℤ → List Met) (start now : ℕ) (numbers left : List ℤ) (g : Gathered)
-    → Gathering mode op value_at nodes_at start now numbers left g → left ≡ [] → g ≡ gathered_with_more (nothing_yet op) (map value_at numbers)
-gathering_value mode op value_at nodes_at start now numbers left g h none =
-    sym (h.value ∙ ap (λ l. gathered_with_more g (map value_at l)) none ∙ more_none g)
+pub gathering_ends : (mode : Mode) (op : QuantOp) (value_at : ℤ → Option ValueTree) (nodes_at : ℤ → List Met) (start now : Meter) (numbers left : List ℤ) (g : Gathered)
+    → Gathering mode op value_at nodes_at start now numbers left g → left ≡ []
+    → Told mode start now (flat_map nodes_at numbers) (g ≡ gathered_with_more (nothing_yet op) (map value_at numbers))
+gathering_ends mode op value_at nodes_at start now numbers left g going none =
+    going_ends start now _ _ going (ap (flat_map nodes_at) none)
+    (λ known. sym (known.0 ∙ ap (λ l. gathered_with_more g (map value_at l)) none ∙ more_none g))
 
 -- ---- a quantifier by its instances
 
@@ -201,57 +176,70 @@ inner_flat : {A B C : Type 0} (f : B → List C) (g : A → B) (xs : List A) →
 inner_flat f g [] = refl
 inner_flat f g (x ∷ xs) = ap (λ ys. f (g x) ++ ys) (inner_flat f g xs)
 
--- the value of a quantifier with a name in front
-pub quantified_some : (mode : Mode) (env : Env) (p : Place) (op : QuantOp) (name : Name) (names : List Name) (d : DomainTree) (e : ExprTree) (ns : List ℤ)
-    → domain_values mode env d ≡ Some ns
+-- the environment in which a name stands for a number
+abbrev pub standing : Env → DomainTree → Name → ℤ → Env
+standing env d name n = with_number name (scalar_in env d) n env
+
+-- the value of a quantifier with a name in front, by the values of its instances
+pub quantified_by : (mode : Mode) (env : Env) (p : Place) (op : QuantOp) (name : Name) (names : List Name) (d : DomainTree) (e : ExprTree)
     → evaluate mode env (quantified p op (name ∷ names) d e)
-    ≡ quantified_value mode op (Some (map (λ n. evaluate mode (with_number name (scalar_in env d) n env) (quantified p op names d e)) ns))
+    ≡ quantified_value mode op (option_map (map (λ n. evaluate mode (standing env d name n) (quantified p op names d e))) (domain_values mode env d))
 unfolding evaluate over_names standing_for
-quantified_some mode env p op name names d e ns h =
-    ap (λ o. quantified_value mode op (option_map (map (λ inner. evaluate mode inner (quantified p op names d e))) (option_map (map (λ n. with_number name (scalar_in env d) n env)) o))) h
-    ∙ ap (λ l. quantified_value mode op (Some l)) (inner_maps (λ inner. evaluate mode inner (quantified p op names d e)) (λ n. with_number name (scalar_in env d) n env) ns)
-
-pub quantified_none : (mode : Mode) (env : Env) (p : Place) (op : QuantOp) (name : Name) (names : List Name) (d : DomainTree) (e : ExprTree)
-    → domain_values mode env d ≡ None → evaluate mode env (quantified p op (name ∷ names) d e) ≡ quantified_value mode op None
-unfolding evaluate over_names standing_for
-quantified_none mode env p op name names d e h =
-    ap (λ o. quantified_value mode op (option_map (map (λ inner. evaluate mode inner (quantified p op names d e))) (option_map (map (λ n. with_number name (scalar_in env d) n env)) o))) h
-
--- a quantifier with a name in front is a plain form
-met_more : (mode : Mode) (env : Env) (p : Place) (op : QuantOp) (name : Name) (names : List Name) (d : DomainTree) (e : ExprTree) (ns : Option (List ℤ))
-    → domain_values mode env d ≡ ns
-    → Meets mode env (quantified p op (name ∷ names) d e)
-    (met_domain mode env d ++ flat_map (λ n. met mode (with_number name (scalar_in env d) n env) (quantified p op names d e)) (unwrap_or ns []))
-unfolding met met_names standing_for all_but_first numbers_at
-met_more mode env p op name names d e ns h = record {
-  plain = record { first = refl; own = refl };
-  parts =
-      ap (λ o. met_domain mode env d ++ flat_map (λ inner. met mode inner (quantified p op names d e)) (unwrap_or (option_map (map (λ n. with_number name (scalar_in env d) n env)) o) [])) h
-      ∙ by ns;
-}
+quantified_by mode env p op name names d e = by (domain_values mode env d)
   where
     by : (o : Option (List ℤ))
-        → met_domain mode env d ++ flat_map (λ inner. met mode inner (quantified p op names d e)) (unwrap_or (option_map (map (λ n. with_number name (scalar_in env d) n env)) o) [])
-        ≡ met_domain mode env d ++ flat_map (λ n. met mode (with_number name (scalar_in env d) n env) (quantified p op names d e)) (unwrap_or o [])
+        → quantified_value mode op (option_map (map (λ inner. evaluate mode inner (quantified p op names d e))) (option_map (map (λ n. standing env d name n)) o))
+        ≡ quantified_value mode op (option_map (map (λ n. evaluate mode (standing env d name n) (quantified p op names d e))) o)
     by None = refl
-    by (Some l) = ap (λ ms. met_domain mode env d ++ ms) (inner_flat (λ inner. met mode inner (quantified p op names d e)) (λ n. with_number name (scalar_in env d) n env) l)
+    by (Some ns) = ap (λ l. quantified_value mode op (Some l)) (inner_maps (λ inner. evaluate mode inner (quantified p op names d e)) (standing env d name) ns)
 
-pub meets_instances : (mode : Mode) (env : Env) (p : Place) (op : QuantOp) (name : Name) (names : List Name) (d : DomainTree) (e : ExprTree) (ns : List ℤ)
-    → domain_values mode env d ≡ Some ns
-    → Meets mode env (quantified p op (name ∷ names) d e)
-    (met_domain mode env d ++ flat_map (λ n. met mode (with_number name (scalar_in env d) n env) (quantified p op names d e)) ns)
-meets_instances mode env p op name names d e ns h = met_more mode env p op name names d e (Some ns) h
+-- and by what they give one after another
+quantified_is : (mode : Mode) (env : Env) (p : Place) (op : QuantOp) (name : Name) (names : List Name) (d : DomainTree) (e : ExprTree)
+    → evaluate mode env (quantified p op (name ∷ names) d e)
+    ≡ worth mode (gathered_of op (option_map (map (λ n. evaluate mode (standing env d name n) (quantified p op names d e))) (domain_values mode env d)))
+unfolding gathered_of
+quantified_is mode env p op name names d e =
+    quantified_by mode env p op name names d e ∙ by (option_map (map (λ n. evaluate mode (standing env d name n) (quantified p op names d e))) (domain_values mode env d))
+  where
+    by : (o : Option (List (Option ValueTree))) → quantified_value mode op o ≡ worth mode (gathered_of op o)
+    by None = sym (worth_none mode op)
+    by (Some vs) = sym (worth_all mode op vs)
 
-pub meets_domain : (mode : Mode) (env : Env) (p : Place) (op : QuantOp) (name : Name) (names : List Name) (d : DomainTree) (e : ExprTree)
-    → domain_values mode env d ≡ None → Meets mode env (quantified p op (name ∷ names) d e) (met_domain mode env d)
-meets_domain mode env p op name names d e h =
-    subst (λ ms. Meets mode env (quantified p op (name ∷ names) d e) ms) (append-nil (met_domain mode env d)) (met_more mode env p op name names d e None h)
+-- it meets itself, its domain, and its instances
+pub met_quantified : (mode : Mode) (env : Env) (p : Place) (op : QuantOp) (name : Name) (names : List Name) (d : DomainTree) (e : ExprTree)
+    → met mode env (quantified p op (name ∷ names) d e)
+    ≡ a_node env (quantified p op (name ∷ names) d e)
+    ∷ (met_domain mode env d ++ flat_map (λ n. met mode (standing env d name n) (quantified p op names d e)) (unwrap_or (domain_values mode env d) []))
+unfolding met met_names standing_for
+met_quantified mode env p op name names d e = ap (λ ms. a_node env (quantified p op (name ∷ names) d e) ∷ (met_domain mode env d ++ ms)) (by (domain_values mode env d))
+  where
+    by : (o : Option (List ℤ))
+        → flat_map (λ inner. met mode inner (quantified p op names d e)) (unwrap_or (option_map (map (λ n. standing env d name n)) o) [])
+        ≡ flat_map (λ n. met mode (standing env d name n) (quantified p op names d e)) (unwrap_or o [])
+    by None = refl
+    by (Some l) = inner_flat (λ inner. met mode inner (quantified p op names d e)) (standing env d name) l
 
--- whatever its domain gives, it meets its domain first
-pub meets_some_instances : (mode : Mode) (env : Env) (p : Place) (op : QuantOp) (name : Name) (names : List Name) (d : DomainTree) (e : ExprTree)
-    → Meets mode env (quantified p op (name ∷ names) d e)
-    (met_domain mode env d ++ flat_map (λ n. met mode (with_number name (scalar_in env d) n env) (quantified p op names d e)) (unwrap_or (domain_values mode env d) []))
-meets_some_instances mode env p op name names d e = met_more mode env p op name names d e (domain_values mode env d) refl
+numbers_quantified : (mode : Mode) (env : Env) (p : Place) (op : QuantOp) (names : List Name) (d : DomainTree) (e : ExprTree)
+    → numbers_at mode (a_node env (quantified p op names d e)) ≡ own_number (evaluate mode env (quantified p op names d e))
+unfolding numbers_at
+numbers_quantified mode env p op names d e = refl
+
+pub quantified_told : (mode own : Mode) (env : Env) (p : Place) (op : QuantOp) (name : Name) (names : List Name) (d : DomainTree) (e : ExprTree) (a b c f : Meter) (numbers : Option (List ℤ)) (g : Gathered) (w : Worth) (seen : Option Held)
+    → Told mode a b (met_domain mode env d) (numbers ≡ domain_values mode env d) → b.passed ≡ None
+    → Told mode b c (flat_map (λ n. met mode (standing env d name n) (quantified p op names d e)) (unwrap_or numbers []))
+    (g ≡ gathered_of op (option_map (map (λ n. evaluate mode (standing env d name n) (quantified p op names d e))) numbers))
+    → own ≡ mode → IsWorth (own_number (worth own g)) (worth own g) w → SettlesWorth c f w seen
+    → Told mode a f (met mode env (quantified p op (name ∷ names) d e)) (evaluate mode env (quantified p op (name ∷ names) d e) ≡ seen_held seen)
+quantified_told mode own env p op name names d e a b c f numbers g w seen domain free all same given settles =
+    let set : numbers ≡ domain_values mode env d = domain.told free in
+    let all_of_it = subst (λ o. Told mode b c (flat_map (λ n. met mode (standing env d name n) (quantified p op names d e)) (unwrap_or o []))
+    (g ≡ gathered_of op (option_map (map (λ n. evaluate mode (standing env d name n) (quantified p op names d e))) o))) set all in
+    let mine : IsWorth (own_number (worth mode g)) (worth mode g) w = subst (λ m. IsWorth (own_number (worth m g)) (worth m g) w) same given in
+    node_told mode a c f _ (a_node env (quantified p op (name ∷ names) d e)) _ _ (evaluate mode env (quantified p op (name ∷ names) d e)) w seen
+    (met_quantified mode env p op name names d e) (numbers_quantified mode env p op (name ∷ names) d e)
+    (told_then (joins mode) a b c _ _ domain all_of_it (λ k is. is))
+    (λ is. subst (λ v. IsWorth (own_number v) v w) (sym (quantified_is mode env p op name names d e ∙ ap (worth mode) (sym is))) mine)
+    settles
 
 -- a quantifier without names is its body
 pub quantified_bare : (mode : Mode) (env : Env) (p : Place) (op : QuantOp) (d : DomainTree) (e : ExprTree) → evaluate mode env (quantified p op [] d e) ≡ evaluate mode env e
@@ -261,80 +249,3 @@ quantified_bare mode env p op d e = refl
 pub met_bare : (mode : Mode) (env : Env) (p : Place) (op : QuantOp) (d : DomainTree) (e : ExprTree) → met mode env (quantified p op [] d e) ≡ met mode env e
 unfolding met met_names
 met_bare mode env p op d e = refl
-
--- ---- answers that pass a check on
-
-pub on_ok : {T : Type 0} (r : Result T EvalError) (X F : Type 0) → OnOk r X → (X → F) → OnOk r F
-on_ok (Ok x) X F h f = f h
-on_ok (Err e) X F h f = tt
-
-pub if_ok : {T : Type 0} (r : Result T EvalError) (P Q : T → Type 0) → IfOk r P → ((x : T) → P x → Q x) → IfOk r Q
-if_ok (Ok x) P Q h f = f x h
-if_ok (Err e) P Q h f = tt
-
--- a number that is too far has its cause, whatever the place
-pub far_causes : {T : Type 0} (r : Result T EvalError) (ls : Place → List LimitName) (F : Type 0)
-    → IfErr r (λ e. e ≡ Limit LimitName.Reach) → IfErr r (λ _. F) → ((p : Place) → F → Contains (ls p) LimitName.Reach) → IfErr r (λ e. (p : Place) → IsCause (ls p) e)
-far_causes (Ok x) ls F same far h = tt
-far_causes (Err e) ls F same far h = λ p. subst (IsCause (ls p)) (sym same) (h p far)
-
--- ---- a plain form at a place
-
-pub plain_value : (mode : Mode) (env : Env) (e : ExprTree) (below : List Met) (b c : ℕ) (v : Option ValueTree)
-    → Meets mode env e below → Counted mode b c below → evaluate mode env e ≡ v → Evaluated mode env e b c v
-plain_value mode env e below b c v meets counted value = record {
-  node = node_of mode env e meets.plain;
-  near = λ h. ap (list_any is_too_far) meets.plain.own ∙ ap is_far_value value ∙ h;
-  counted = subst (λ ms. Counted mode b c ms) (sym meets.parts) counted;
-  value = value;
-}
-
-pub plain_cause : (mode : Mode) (env : Env) (e : ExprTree) (below : List Met) (b : ℕ) (error : EvalError)
-    → Meets mode env e below → IsCause (limits_of_values mode b below) error → IsRefused mode env e b error
-plain_cause mode env e below b Memory meets cause = tt
-plain_cause mode env e below b (Limit l) meets cause =
-    (inl (subst (λ ms. IsCause (limits_of_values mode b ms) (Limit l)) (sym meets.parts) cause), node_of mode env e meets.plain)
-
-pub plain_far : (mode : Mode) (env : Env) (e : ExprTree) (below : List Met) (b : ℕ) (v : Option ValueTree) (error : EvalError)
-    → Meets mode env e below → evaluate mode env e ≡ v → IsTooFar v error → IsRefused mode env e b error
-plain_far mode env e below b v Memory meets value far = tt
-plain_far mode env e below b v (Limit l) meets value far =
-    (inr (far.0, ap (list_any is_too_far) meets.plain.own ∙ ap is_far_value value ∙ far.1), node_of mode env e meets.plain)
-
--- what a form gives that may be too far: its value, or what refuses it
-pub gives_value : (v : Option ValueTree) (r : Result (Option Held) EvalError) (P : Option ValueTree → Type 0) → Gives r v → P v → IfOk r (λ seen. P (seen_held seen))
-gives_value v (Ok seen) P gives value = subst P (sym gives) value
-gives_value v (Err e) P gives value = tt
-
-pub gives_cause : (v : Option ValueTree) (r : Result (Option Held) EvalError) (P : EvalError → Type 0) → Gives r v → ((error : EvalError) → IsTooFar v error → P error) → IfErr r P
-gives_cause v (Ok seen) P gives cause = tt
-gives_cause v (Err e) P gives cause = cause e gives
-
--- the value of a quantifier by what its instances gave
-pub gathered_is : (mode : Mode) (env : Env) (p : Place) (op : QuantOp) (name : Name) (names : List Name) (d : DomainTree) (e : ExprTree) (ns : List ℤ) (g : Gathered)
-    → domain_values mode env d ≡ Some ns
-    → g ≡ gathered_with_more (nothing_yet op) (map (λ n. evaluate mode (with_number name (scalar_in env d) n env) (quantified p op names d e)) ns)
-    → evaluate mode env (quantified p op (name ∷ names) d e) ≡ worth mode g
-gathered_is mode env p op name names d e ns g h is =
-    quantified_some mode env p op name names d e ns h
-    ∙ sym (worth_all mode op (map (λ n. evaluate mode (with_number name (scalar_in env d) n env) (quantified p op names d e)) ns))
-    ∙ ap (worth mode) (sym is)
-
-pub if_err : {T : Type 0} (r : Result T EvalError) (P Q : EvalError → Type 0) → IfErr r P → ((e : EvalError) → P e → Q e) → IfErr r Q
-if_err (Ok x) P Q h f = tt
-if_err (Err e) P Q h f = f e h
-
--- some place
-pub a_place : Place
-a_place = record { line = 1; column = 1 }
-
--- an expression that is a quantifier, by its parts as they are lent
-pub quantifier_tree : (p : Place) (e : Expr) (op : QuantOp) (names : Vec Name Global) (d : Box Domain Global) (b : Box Expr Global) (domain : Domain) (body : Expr) (lent : List Name)
-    → e.place ≡ p → e.kind ≡ Quant op names d b → domain ≡ d.value → body ≡ b.value → lent ≡ names.items
-    → expr_tree e ≡ quantified p op lent (domain_tree domain) (expr_tree body)
-quantifier_tree p e op names d b domain body lent at is same_domain same_body same_names =
-    ap (λ k. kind_tree e.place k) is ∙ kind_tree-quantified e.place op names d b
-    ∙ ap (λ x. quantified x op names.items (domain_tree d.value) (expr_tree b.value)) at
-    ∙ ap (λ ns. quantified p op ns (domain_tree d.value) (expr_tree b.value)) (sym same_names)
-    ∙ ap (λ x. quantified p op lent (domain_tree x) (expr_tree b.value)) (sym same_domain)
-    ∙ ap (λ x. quantified p op lent (domain_tree domain) (expr_tree x)) (sym same_body)

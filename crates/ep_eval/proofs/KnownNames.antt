@@ -22,19 +22,3 @@ pub bytes_eq-symmetric : (k q : Name) → bytes_eq k q ≡ bytes_eq q k
 bytes_eq-symmetric k q =
     one_answer {P = k ≡ q} (bytes_eq k q) (bytes_eq q k) (bytes_eq-Decides k q)
     (λ h. sym ((bytes_eq-Decides q k).0 h), λ e. (bytes_eq-Decides q k).1 (sym e))
-
--- an entry more
-pub entries_env-put :
-    (old new : List (Name × Meaning)) (k : Name) (m : Meaning)
-    → ((q : Name) → lookup (bytes_eq q) new ≡ cond (bytes_eq k q) (Some m) (lookup (bytes_eq q) old))
-    → entries_env new ≡ put k (bound_of m) (entries_env old)
-entries_env-put old new k m h = λ i q. at q i
-  where
-    by : (c : Bool) (q : Name) → option_map bound_of (cond c (Some m) (lookup (bytes_eq q) old)) ≡ (if c then Some (bound_of m) else option_map bound_of (lookup (bytes_eq q) old))
-    by true q = refl
-    by false q = refl
-
-    at : (q : Name) → entries_env new q ≡ put k (bound_of m) (entries_env old) q
-    at q =
-        ap (option_map bound_of) (h q) ∙ by (bytes_eq k q) q
-        ∙ ap (λ c. if c then Some (bound_of m) else option_map bound_of (lookup (bytes_eq q) old)) (bytes_eq-symmetric k q)

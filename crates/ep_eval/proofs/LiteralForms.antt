@@ -16,24 +16,21 @@ use Rattle.ep_base.specs.Runs.{AreApart, IsAscending, IsIn, counting, numbers, n
 use Rattle.ep_base.specs.declared.places.Place.{Place}
 use Rattle.ep_base.specs.declared.run_lists.Run.{Run}
 use Rattle.ep_tree.proofs.EvaluationEquations.{evaluate-literal}
-use Rattle.ep_tree.proofs.ViewLemmas.{index_of}
 use Rattle.ep_tree.specs.Environments.{Env}
 use Rattle.ep_tree.specs.Evaluation.{domain_values, evaluate, index_values, matrix_value, values_of}
-use Rattle.ep_tree.specs.Limits.{MOST_SIZE, limits_of_values, numbers_at}
 use Rattle.ep_tree.specs.Measures.{met, met_all, met_domain, met_index}
-use Rattle.ep_tree.specs.Trees.{ExprTrees, IndexDomain, literal}
+use Rattle.ep_tree.specs.Trees.{IndexDomain, literal}
 use Rattle.ep_tree.specs.Values.{ValueTree, all_defined, as_parts, matrix, with_indices}
 use Rattle.ep_tree.specs.Views.{domain_tree, expr_tree, expr_trees}
 use Rattle.ep_tree.specs.declared.syntax.Domain.{Domain}
 use Rattle.ep_tree.specs.declared.syntax.Expr.{Expr}
 use Rattle.ep_tree.specs.declared.values.Mode.{Mode}
+use Rattle.ep_forms.specs.Forms.{index_at}
+use Rattle.ep_eval.proofs.MeterSteps.{going_begins, going_ends, going_more, joins}
+use Rattle.ep_eval.specs.Meters.{Going, Told}
+use Rattle.ep_eval.specs.declared.meter.Meter.{Meter}
+use Rattle.ep_eval.proofs.PartSteps.{met_part, no_parts, values_part}
 use Rattle.ep_tree.specs.declared.values.Value.{Value}
-use Rattle.ep_eval.proofs.FormParts.{Meets}
-use Rattle.ep_eval.proofs.Walks.{Walked, walk_begins, walk_cause, walk_ends, walk_more}
-use Rattle.ep_eval.specs.Counting.{Counted, all_but_first}
-use Rattle.ep_eval.specs.Literals.{index_at}
-use Rattle.ep_eval.specs.Outcomes.{IsCause}
-use Rattle.ep_eval.specs.declared.errors.EvalError.{EvalError}
 
 -- ---- parts one after another
 
@@ -42,28 +39,18 @@ abbrev pub joined_parts : Option (List ValueTree) → Option (List ValueTree) �
 joined_parts values left = map_both ◌++◌ values left
 
 -- some parts are evaluated, and others are left
-pub record PartsSoFar (mode : Mode) (env : Env) (start now : ℕ) (parts left : List Expr) (values : Option (List ValueTree)) : Type 0 where
-  pub walked : Walked mode start now (met_all mode env (expr_trees parts)) (met_all mode env (expr_trees left))
-  pub value : all_defined (values_of mode env (expr_trees parts)) ≡ joined_parts values (all_defined (values_of mode env (expr_trees left)))
+abbrev pub PartsSoFar : Mode → Env → Meter → Meter → List Expr → List Expr → Option (List ValueTree) → Type 0
+PartsSoFar mode env start now parts left values =
+    Going mode start now (met_all mode env (expr_trees parts)) (met_all mode env (expr_trees left))
+    (all_defined (values_of mode env (expr_trees parts)) ≡ joined_parts values (all_defined (values_of mode env (expr_trees left))))
 
 none_before : (o : Option (List ValueTree)) → o ≡ joined_parts (Some []) o
 unfolding map_both
 none_before None = refl
 none_before (Some vs) = refl
 
-pub parts_begin : (mode : Mode) (env : Env) (start : ℕ) (parts : List Expr) → start ≤ MOST_SIZE → PartsSoFar mode env start start parts parts (Some [])
-parts_begin mode env start parts h = record {
-  walked = walk_begins mode start (met_all mode env (expr_trees parts)) h;
-  value = none_before (all_defined (values_of mode env (expr_trees parts)));
-}
-
-met_part : (mode : Mode) (env : Env) (part : Expr) (rest : List Expr) → met_all mode env (expr_trees (part ∷ rest)) ≡ met mode env (expr_tree part) ++ met_all mode env (expr_trees rest)
-unfolding met_all expr_trees
-met_part mode env part rest = refl
-
-values_part : (mode : Mode) (env : Env) (part : Expr) (rest : List Expr) → values_of mode env (expr_trees (part ∷ rest)) ≡ evaluate mode env (expr_tree part) ∷ values_of mode env (expr_trees rest)
-unfolding values_of expr_trees
-values_part mode env part rest = refl
+pub parts_begin : (mode : Mode) (env : Env) (start : Meter) (parts : List Expr) → PartsSoFar mode env start start parts parts (Some [])
+parts_begin mode env start parts = going_begins (joins mode) start _ _ refl (none_before (all_defined (values_of mode env (expr_trees parts))))
 
 put_behind : (vs : List ValueTree) (v : ValueTree) (o : Option (List ValueTree)) → map_both ◌++◌ (Some vs) (option_map (λ ws. v ∷ ws) o) ≡ map_both ◌++◌ (Some (vs ++ v ∷ [])) o
 unfolding map_both
@@ -77,50 +64,33 @@ one_behind None seen others = refl
 one_behind (Some vs) None others = refl
 one_behind (Some vs) (Some v) others = put_behind vs v (all_defined others)
 
-pub parts_more : (mode : Mode) (env : Env) (start now after : ℕ) (parts left : List Expr) (values more : Option (List ValueTree)) (part : Expr) (rest : List Expr) (seen : Option ValueTree)
+pub parts_more : (mode : Mode) (env : Env) (start now after : Meter) (parts left : List Expr) (values more : Option (List ValueTree)) (part : Expr) (rest : List Expr) (seen : Option ValueTree)
     → PartsSoFar mode env start now parts left values → left ≡ part ∷ rest
-    → Counted mode now after (met mode env (expr_tree part)) → evaluate mode env (expr_tree part) ≡ seen
+    → Told mode now after (met mode env (expr_tree part)) (evaluate mode env (expr_tree part) ≡ seen)
     → more ≡ map_both (λ all one. all ++ one ∷ []) values seen → PartsSoFar mode env start after parts rest more
-parts_more mode env start now after parts left values more part rest seen h cut counted value is = record {
-  walked = walk_more mode start now after _ _ (met mode env (expr_tree part)) _ h.walked (ap (λ l. met_all mode env (expr_trees l)) cut ∙ met_part mode env part rest) counted;
-  value =
-      h.value
-      ∙ ap (λ l. joined_parts values (all_defined l))
-      (ap (λ l. values_of mode env (expr_trees l)) cut ∙ values_part mode env part rest ∙ ap (λ v. v ∷ values_of mode env (expr_trees rest)) value)
-      ∙ one_behind values seen (values_of mode env (expr_trees rest))
-      ∙ ap (λ o. joined_parts o (all_defined (values_of mode env (expr_trees rest)))) (sym is);
-}
-
-pub parts_cause : (mode : Mode) (env : Env) (start now : ℕ) (parts left : List Expr) (values : Option (List ValueTree)) (part : Expr) (rest : List Expr)
-    → PartsSoFar mode env start now parts left values → left ≡ part ∷ rest
-    → (error : EvalError) → IsCause (limits_of_values mode now (met mode env (expr_tree part))) error
-    → IsCause (limits_of_values mode start (met_all mode env (expr_trees parts))) error
-parts_cause mode env start now parts left values part rest h cut error cause =
-    walk_cause mode start now _ _ (met mode env (expr_tree part)) _ h.walked (ap (λ l. met_all mode env (expr_trees l)) cut ∙ met_part mode env part rest) error cause
-
-pub parts_counted : (mode : Mode) (env : Env) (start now : ℕ) (parts left : List Expr) (values : Option (List ValueTree))
-    → PartsSoFar mode env start now parts left values → left ≡ [] → Counted mode start now (met_all mode env (expr_trees parts))
-unfolding met_all expr_trees
-parts_counted mode env start now parts left values h none =
-    walk_ends mode start now _ (subst (λ l. Walked mode start now (met_all mode env (expr_trees parts)) (met_all mode env (expr_trees l))) none h.walked)
+parts_more mode env start now after parts left values more part rest seen g cut told is =
+    going_more (joins mode) start now after _ _ (met mode env (expr_tree part)) _ g (ap (λ l. met_all mode env (expr_trees l)) cut ∙ met_part mode env part rest) told
+    (λ known value.
+    known
+    ∙ ap (λ l. joined_parts values (all_defined l))
+    (ap (λ l. values_of mode env (expr_trees l)) cut ∙ values_part mode env part rest ∙ ap (λ v. v ∷ values_of mode env (expr_trees rest)) value)
+    ∙ one_behind values seen (values_of mode env (expr_trees rest))
+    ∙ ap (λ o. joined_parts o (all_defined (values_of mode env (expr_trees rest)))) (sym is))
 
 none_behind : (values : Option (List ValueTree)) → joined_parts values (Some []) ≡ values
 unfolding map_both
 none_behind None = refl
 none_behind (Some vs) = ap Some (append-nil vs)
 
-pub parts_value : (mode : Mode) (env : Env) (start now : ℕ) (parts left : List Expr) (values : Option (List ValueTree))
-    → PartsSoFar mode env start now parts left values → left ≡ [] → values ≡ all_defined (values_of mode env (expr_trees parts))
+pub parts_end : (mode : Mode) (env : Env) (start now : Meter) (parts left : List Expr) (values : Option (List ValueTree))
+    → PartsSoFar mode env start now parts left values → left ≡ []
+    → Told mode start now (met_all mode env (expr_trees parts)) (values ≡ all_defined (values_of mode env (expr_trees parts)))
 unfolding values_of expr_trees all_defined
-parts_value mode env start now parts left values h none =
-    sym (h.value ∙ ap (λ l. joined_parts values (all_defined (values_of mode env (expr_trees l)))) none ∙ none_behind values)
+parts_end mode env start now parts left values g none =
+    going_ends start now _ _ g (no_parts mode env left none)
+    (λ known. sym (known ∙ ap (λ l. joined_parts values (all_defined (values_of mode env (expr_trees l)))) none ∙ none_behind values))
 
 -- ---- the indices
-
-pub index_is : (d : Option (Box Domain Global)) → index_of d ≡ index_at d
-unfolding index_of index_at
-index_is None = refl
-index_is (Some d) = refl
 
 pub met_index-some : (mode : Mode) (env : Env) (o : Option (Box Domain Global)) (d : Box Domain Global) → o ≡ Some d → met_domain mode env (domain_tree d.value) ≡ met_index mode env (index_at o)
 unfolding met_index index_at
@@ -141,11 +111,6 @@ unfolding index_values index_at
 index_values-none mode env o count h = sym (ap (λ x. index_values mode env (index_at x) count) h)
 
 -- ---- the matrix
-
-pub meets_literal : (mode : Mode) (env : Env) (p : Place) (parts : ExprTrees) (d : IndexDomain)
-    → Meets mode env (literal p parts d) (met_all mode env parts ++ met_index mode env d)
-unfolding met all_but_first numbers_at
-meets_literal mode env p parts d = record { plain = record { first = refl; own = refl }; parts = refl }
 
 as_many : (mode : Mode) (env : Env) (parts : List Expr) → length (values_of mode env (expr_trees parts)) ≡ length parts
 unfolding values_of expr_trees
@@ -250,6 +215,3 @@ counted_set set parts n is ascends same =
 
 pub counted_values : (v : Vec Value Global) → vec_len v ≡ length v.items
 counted_values v = search rules
-
-pub counted_exprs : (v : Vec Expr Global) → vec_len v ≡ length v.items
-counted_exprs v = search rules

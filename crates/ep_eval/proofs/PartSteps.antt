@@ -1,20 +1,19 @@
 -- Truths of expressions one after another.
-use Rattle.std.proofs.Common.{◌≡◌, ℕ, ◌≤◌, Bool, true, false, List, [], ◌∷◌, ◌++◌, ℤ, refl, sym, ap, subst, ◌∙◌}
+use Rattle.std.proofs.Common.{◌≡◌, Bool, true, false, List, [], ◌∷◌, ◌++◌, ℤ, refl, sym, ap, ◌∙◌}
 use Rattle.std.specs.Prelude.{Option, Some, None, map, option_map}
 use Rattle.ep_base.specs.Numbers.{all_one, any_one, is_one}
 use Rattle.ep_base.specs.Options.{map_both}
 use Rattle.ep_tree.specs.Environments.{Env}
 use Rattle.ep_tree.specs.Evaluation.{all_true, any_true, evaluate, number_in, truth_of, values_of}
-use Rattle.ep_tree.specs.Limits.{MOST_SIZE, limits_of_values}
 use Rattle.ep_tree.specs.Measures.{met, met_all}
 use Rattle.ep_tree.specs.Values.{ValueTree, all_defined}
 use Rattle.ep_tree.specs.Views.{expr_tree, expr_trees}
 use Rattle.ep_tree.specs.declared.syntax.Expr.{Expr}
 use Rattle.ep_tree.specs.declared.values.Mode.{Mode}
-use Rattle.ep_eval.proofs.Walks.{Walked, walk_begins, walk_cause, walk_ends, walk_more}
-use Rattle.ep_eval.specs.Counting.{Counted, of_all, together}
-use Rattle.ep_eval.specs.Outcomes.{IsCause}
-use Rattle.ep_eval.specs.declared.errors.EvalError.{EvalError}
+use Rattle.ep_eval.specs.Counting.{of_all, together}
+use Rattle.ep_eval.proofs.MeterSteps.{going_begins, going_ends, going_more, joins}
+use Rattle.ep_eval.specs.Meters.{Going, Told}
+use Rattle.ep_eval.specs.declared.meter.Meter.{Meter}
 
 first_unit : (e : Bool) (o : Option Bool) → map_both (together e) (Some e) o ≡ o
 unfolding map_both together
@@ -69,59 +68,50 @@ of_all_more true v vs = every_more (number_in v) (map number_in vs)
 of_all_more false v vs = any_more (number_in v) (map number_in vs)
 
 -- some expressions are evaluated, and others are left
-pub record TruthsSoFar (mode : Mode) (env : Env) (every : Bool) (start now : ℕ) (parts left : List Expr) (truth : Option Bool) : Type 0 where
-  pub walked : Walked mode start now (met_all mode env (expr_trees parts)) (met_all mode env (expr_trees left))
-  pub value : of_all every (values_of mode env (expr_trees parts)) ≡ map_both (together every) truth (of_all every (values_of mode env (expr_trees left)))
+abbrev pub TruthsSoFar : Mode → Env → Bool → Meter → Meter → List Expr → List Expr → Option Bool → Type 0
+TruthsSoFar mode env every start now parts left truth =
+    Going mode start now (met_all mode env (expr_trees parts)) (met_all mode env (expr_trees left))
+    (of_all every (values_of mode env (expr_trees parts)) ≡ map_both (together every) truth (of_all every (values_of mode env (expr_trees left))))
 
-pub truths_begin : (mode : Mode) (env : Env) (every : Bool) (start : ℕ) (parts : List Expr) → start ≤ MOST_SIZE → TruthsSoFar mode env every start start parts parts (Some every)
-truths_begin mode env every start parts h = record {
-  walked = walk_begins mode start (met_all mode env (expr_trees parts)) h;
-  value = sym (first_unit every (of_all every (values_of mode env (expr_trees parts))));
-}
+pub truths_begin : (mode : Mode) (env : Env) (every : Bool) (start : Meter) (parts : List Expr) → TruthsSoFar mode env every start start parts parts (Some every)
+truths_begin mode env every start parts = going_begins (joins mode) start _ _ refl (sym (first_unit every (of_all every (values_of mode env (expr_trees parts)))))
 
-met_part : (mode : Mode) (env : Env) (part : Expr) (rest : List Expr) → met_all mode env (expr_trees (part ∷ rest)) ≡ met mode env (expr_tree part) ++ met_all mode env (expr_trees rest)
+pub met_part : (mode : Mode) (env : Env) (part : Expr) (rest : List Expr) → met_all mode env (expr_trees (part ∷ rest)) ≡ met mode env (expr_tree part) ++ met_all mode env (expr_trees rest)
 unfolding met_all expr_trees
 met_part mode env part rest = refl
 
-values_part : (mode : Mode) (env : Env) (part : Expr) (rest : List Expr) → values_of mode env (expr_trees (part ∷ rest)) ≡ evaluate mode env (expr_tree part) ∷ values_of mode env (expr_trees rest)
+pub values_part : (mode : Mode) (env : Env) (part : Expr) (rest : List Expr) → values_of mode env (expr_trees (part ∷ rest)) ≡ evaluate mode env (expr_tree part) ∷ values_of mode env (expr_trees rest)
 unfolding values_of expr_trees
 values_part mode env part rest = refl
 
-pub truths_more : (mode : Mode) (env : Env) (every : Bool) (start now after : ℕ) (parts left : List Expr) (truth : Option Bool) (part : Expr) (rest : List Expr) (seen : Option ValueTree)
+pub truths_more : (mode : Mode) (env : Env) (every : Bool) (start now after : Meter) (parts left : List Expr) (truth : Option Bool) (part : Expr) (rest : List Expr) (seen : Option ValueTree)
     → TruthsSoFar mode env every start now parts left truth → left ≡ part ∷ rest
-    → Counted mode now after (met mode env (expr_tree part)) → evaluate mode env (expr_tree part) ≡ seen
+    → Told mode now after (met mode env (expr_tree part)) (evaluate mode env (expr_tree part) ≡ seen)
     → TruthsSoFar mode env every start after parts rest (map_both (together every) truth (truth_of seen))
-truths_more mode env every start now after parts left truth part rest seen h cut counted value = record {
-  walked = walk_more mode start now after _ _ (met mode env (expr_tree part)) _ h.walked (ap (λ l. met_all mode env (expr_trees l)) cut ∙ met_part mode env part rest) counted;
-  value =
-      h.value
-      ∙ ap (λ l. map_both (together every) truth (of_all every l))
-      (ap (λ l. values_of mode env (expr_trees l)) cut ∙ values_part mode env part rest ∙ ap (λ v. v ∷ values_of mode env (expr_trees rest)) value)
-      ∙ ap (map_both (together every) truth) (of_all_more every seen (values_of mode env (expr_trees rest)))
-      ∙ regrouped every truth (truth_of seen) (of_all every (values_of mode env (expr_trees rest)));
-}
-
-pub truths_cause : (mode : Mode) (env : Env) (every : Bool) (start now : ℕ) (parts left : List Expr) (truth : Option Bool) (part : Expr) (rest : List Expr)
-    → TruthsSoFar mode env every start now parts left truth → left ≡ part ∷ rest
-    → (error : EvalError) → IsCause (limits_of_values mode now (met mode env (expr_tree part))) error
-    → IsCause (limits_of_values mode start (met_all mode env (expr_trees parts))) error
-truths_cause mode env every start now parts left truth part rest h cut error cause =
-    walk_cause mode start now _ _ (met mode env (expr_tree part)) _ h.walked (ap (λ l. met_all mode env (expr_trees l)) cut ∙ met_part mode env part rest) error cause
-
-pub truths_counted : (mode : Mode) (env : Env) (every : Bool) (start now : ℕ) (parts left : List Expr) (truth : Option Bool)
-    → TruthsSoFar mode env every start now parts left truth → left ≡ [] → Counted mode start now (met_all mode env (expr_trees parts))
-unfolding met_all expr_trees
-truths_counted mode env every start now parts left truth h none =
-    walk_ends mode start now _ (subst (λ l. Walked mode start now (met_all mode env (expr_trees parts)) (met_all mode env (expr_trees l))) none h.walked)
+truths_more mode env every start now after parts left truth part rest seen g cut told =
+    going_more (joins mode) start now after _ _ (met mode env (expr_tree part)) _ g (ap (λ l. met_all mode env (expr_trees l)) cut ∙ met_part mode env part rest) told
+    (λ known value.
+    known
+    ∙ ap (λ l. map_both (together every) truth (of_all every l))
+    (ap (λ l. values_of mode env (expr_trees l)) cut ∙ values_part mode env part rest ∙ ap (λ v. v ∷ values_of mode env (expr_trees rest)) value)
+    ∙ ap (map_both (together every) truth) (of_all_more every seen (values_of mode env (expr_trees rest)))
+    ∙ regrouped every truth (truth_of seen) (of_all every (values_of mode env (expr_trees rest))))
 
 pub of_none : (e : Bool) → of_all e [] ≡ Some e
 unfolding of_all all_true any_true all_defined all_one any_one
 of_none true = refl
 of_none false = refl
 
-pub truths_value : (mode : Mode) (env : Env) (every : Bool) (start now : ℕ) (parts left : List Expr) (truth : Option Bool)
-    → TruthsSoFar mode env every start now parts left truth → left ≡ [] → truth ≡ of_all every (values_of mode env (expr_trees parts))
+pub no_parts : (mode : Mode) (env : Env) (left : List Expr) → left ≡ [] → met_all mode env (expr_trees left) ≡ []
+unfolding met_all expr_trees
+no_parts mode env left none = ap (λ l. met_all mode env (expr_trees l)) none
+
+pub truths_end : (mode : Mode) (env : Env) (every : Bool) (start now : Meter) (parts left : List Expr) (truth : Option Bool)
+    → TruthsSoFar mode env every start now parts left truth → left ≡ []
+    → Told mode start now (met_all mode env (expr_trees parts)) (truth ≡ of_all every (values_of mode env (expr_trees parts)))
 unfolding values_of expr_trees
-truths_value mode env every start now parts left truth h none =
-    sym (h.value ∙ ap (λ l. map_both (together every) truth (of_all every (values_of mode env (expr_trees l)))) none
-    ∙ ap (map_both (together every) truth) (of_none every) ∙ last_unit every truth)
+truths_end mode env every start now parts left truth g none =
+    going_ends start now _ _ g (no_parts mode env left none)
+    (λ known.
+    sym (known ∙ ap (λ l. map_both (together every) truth (of_all every (values_of mode env (expr_trees l)))) none
+    ∙ ap (map_both (together every) truth) (of_none every) ∙ last_unit every truth))

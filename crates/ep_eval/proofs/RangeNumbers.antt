@@ -25,18 +25,16 @@ use Rattle.ep_tree.specs.Environments.{Bound, Env, domain_bound, has_cells, has_
 use Rattle.ep_tree.specs.declared.values.Scalar.{Scalar}
 use Rattle.ep_eval.specs.Bounds.{only_domain}
 use Rattle.ep_tree.specs.Evaluation.{end_value, evaluate, number_in, range_values}
-use Rattle.ep_tree.specs.Limits.{MOST_SIZE, limits_of_values}
 use Rattle.ep_tree.specs.Measures.{met, met_end, met_ranges}
 use Rattle.ep_tree.specs.Trees.{no_ranges}
 use Rattle.ep_tree.specs.Views.{end_of, expr_tree, held_end, kind_tree, ranges_of, with_range}
 use Rattle.ep_tree.specs.declared.syntax.Expr.{Expr}
 use Rattle.ep_tree.specs.declared.syntax.Range.{One, One', Range, Span, Span'}
 use Rattle.ep_tree.specs.declared.values.Mode.{Mode}
-use Rattle.ep_eval.proofs.Walks.{Walked, walk_begins, walk_cause, walk_ends, walk_more}
-use Rattle.ep_eval.specs.Counting.{Counted}
-use Rattle.ep_eval.specs.Outcomes.{IsCause}
+use Rattle.ep_eval.proofs.MeterSteps.{going_begins, going_ends, going_more, joins}
+use Rattle.ep_eval.specs.Meters.{Going, Told}
+use Rattle.ep_eval.specs.declared.meter.Meter.{Meter}
 use Rattle.ep_eval.specs.Ranges.{alone, has_in, run_has, runs_have}
-use Rattle.ep_eval.specs.declared.errors.EvalError.{EvalError}
 
 -- ---- ends
 
@@ -117,11 +115,11 @@ alone-span mode env r a b low high run h lower upper is n =
 -- ---- many ranges
 
 -- some ranges are read, and others are left
-pub record RunsSoFar (mode : Mode) (env : Env) (start now : ℕ) (all left : List Range) (runs : Option (List Run)) : Type 0 where
-  pub walked : Walked mode start now (met_ranges mode env (ranges_of all)) (met_ranges mode env (ranges_of left))
-  pub same : (n : ℤ) → has_in n (range_values mode env (ranges_of all))
-      ≡ map_both (λ b c. b || c) (option_map (runs_have n) runs) (has_in n (range_values mode env (ranges_of left)))
-  pub small : now ≤ MOST_SIZE
+abbrev pub RunsSoFar : Mode → Env → Meter → Meter → List Range → List Range → Option (List Run) → Type 0
+RunsSoFar mode env start now all left runs =
+    Going mode start now (met_ranges mode env (ranges_of all)) (met_ranges mode env (ranges_of left))
+    ((n : ℤ) → has_in n (range_values mode env (ranges_of all))
+    ≡ map_both (λ b c. b || c) (option_map (runs_have n) runs) (has_in n (range_values mode env (ranges_of left))))
 
 or_first : (o : Option Bool) → o ≡ map_both (λ b c. b || c) (Some false) o
 unfolding map_both
@@ -141,14 +139,10 @@ or_regrouped (Some x) (Some y) None = refl
 or_regrouped (Some true) (Some y) (Some z) = refl
 or_regrouped (Some false) (Some y) (Some z) = refl
 
-pub runs_begin : (mode : Mode) (env : Env) (start : ℕ) (all : List Range) → start ≤ MOST_SIZE → RunsSoFar mode env start start all all (Some [])
-runs_begin mode env start all h = record {
-  walked = walk_begins mode start (met_ranges mode env (ranges_of all)) h;
-  same = λ n. or_first (has_in n (range_values mode env (ranges_of all)));
-  small = h;
-}
+pub runs_begin : (mode : Mode) (env : Env) (start : Meter) (all : List Range) → RunsSoFar mode env start start all all (Some [])
+runs_begin mode env start all = going_begins (joins mode) start _ _ refl (λ n. or_first (has_in n (range_values mode env (ranges_of all))))
 
-pub met_cons : (mode : Mode) (env : Env) (r : Range) (left : List Range)
+met_cons : (mode : Mode) (env : Env) (r : Range) (left : List Range)
     → met_ranges mode env (ranges_of (r ∷ left)) ≡ met_ranges mode env (alone r) ++ met_ranges mode env (ranges_of left)
 unfolding met_ranges ranges_of with_range
 met_cons mode env (One' place kind) left = ap (λ l. l ++ met_ranges mode env (ranges_of left)) (sym (append-nil (met mode env (kind_tree place kind))))
@@ -184,47 +178,38 @@ appended n None run = refl
 appended n (Some rs) None = refl
 appended n (Some rs) (Some r) = ap Some (list_any-append (run_has n) rs (r ∷ []) ∙ ap (λ b. list_any (run_has n) rs || b) (or-false (run_has n r)))
 
-pub runs_more : (mode : Mode) (env : Env) (start now after : ℕ) (all left : List Range) (r : Range) (rest : List Range) (runs more : Option (List Run)) (run : Option Run)
-    → RunsSoFar mode env start now all left runs → left ≡ r ∷ rest → Counted mode now after (met_ranges mode env (alone r))
-    → ((n : ℤ) → option_map (run_has n) run ≡ has_in n (range_values mode env (alone r)))
-    → more ≡ map_both (λ all one. all ++ one ∷ []) runs run → RunsSoFar mode env start after all rest more
-runs_more mode env start now after all left r rest runs more run h cut counted value is = record {
-  walked = walk_more mode start now after _ _ (met_ranges mode env (alone r)) _ h.walked (ap (λ l. met_ranges mode env (ranges_of l)) cut ∙ met_cons mode env r rest) counted;
-  same = λ n.
-      h.same n
-      ∙ ap (map_both (λ b c. b || c) (option_map (runs_have n) runs))
-      (ap (λ l. has_in n (range_values mode env (ranges_of l))) cut ∙ values_cons mode env n r rest
-      ∙ ap (λ o. map_both (λ b c. b || c) o (has_in n (range_values mode env (ranges_of rest)))) (sym (value n)))
-      ∙ or_regrouped (option_map (runs_have n) runs) (option_map (run_has n) run) (has_in n (range_values mode env (ranges_of rest)))
-      ∙ ap (λ o. map_both (λ b c. b || c) o (has_in n (range_values mode env (ranges_of rest)))) (sym (appended n runs run) ∙ sym (ap (option_map (runs_have n)) is));
-  small = counted.small;
-}
-
-pub runs_cause : (mode : Mode) (env : Env) (start now : ℕ) (all left : List Range) (r : Range) (rest : List Range) (runs : Option (List Run))
+pub runs_more : (mode : Mode) (env : Env) (start now after : Meter) (all left : List Range) (r : Range) (rest : List Range) (runs more : Option (List Run)) (run : Option Run)
     → RunsSoFar mode env start now all left runs → left ≡ r ∷ rest
-    → (error : EvalError) → IsCause (limits_of_values mode now (met_ranges mode env (alone r))) error
-    → IsCause (limits_of_values mode start (met_ranges mode env (ranges_of all))) error
-runs_cause mode env start now all left r rest runs h cut error cause =
-    walk_cause mode start now _ _ (met_ranges mode env (alone r)) _ h.walked (ap (λ l. met_ranges mode env (ranges_of l)) cut ∙ met_cons mode env r rest) error cause
-
-pub runs_counted : (mode : Mode) (env : Env) (start now : ℕ) (all left : List Range) (runs : Option (List Run))
-    → RunsSoFar mode env start now all left runs → left ≡ [] → Counted mode start now (met_ranges mode env (ranges_of all))
-unfolding met_ranges ranges_of
-runs_counted mode env start now all left runs h none =
-    walk_ends mode start now _ (subst (λ l. Walked mode start now (met_ranges mode env (ranges_of all)) (met_ranges mode env (ranges_of l))) none h.walked)
+    → Told mode now after (met_ranges mode env (alone r)) ((n : ℤ) → option_map (run_has n) run ≡ has_in n (range_values mode env (alone r)))
+    → more ≡ map_both (λ all one. all ++ one ∷ []) runs run → RunsSoFar mode env start after all rest more
+runs_more mode env start now after all left r rest runs more run g cut told is =
+    going_more (joins mode) start now after _ _ (met_ranges mode env (alone r)) _ g (ap (λ l. met_ranges mode env (ranges_of l)) cut ∙ met_cons mode env r rest) told
+    (λ known value n.
+    known n
+    ∙ ap (map_both (λ b c. b || c) (option_map (runs_have n) runs))
+    (ap (λ l. has_in n (range_values mode env (ranges_of l))) cut ∙ values_cons mode env n r rest
+    ∙ ap (λ o. map_both (λ b c. b || c) o (has_in n (range_values mode env (ranges_of rest)))) (sym (value n)))
+    ∙ or_regrouped (option_map (runs_have n) runs) (option_map (run_has n) run) (has_in n (range_values mode env (ranges_of rest)))
+    ∙ ap (λ o. map_both (λ b c. b || c) o (has_in n (range_values mode env (ranges_of rest)))) (sym (appended n runs run) ∙ sym (ap (option_map (runs_have n)) is)))
 
 in_vec : (n : ℤ) (runs : Option (Vec Run Global)) → option_map (λ v. runs_have n v.items) runs ≡ option_map (runs_have n) (option_map (λ v. v.items) runs)
 in_vec n None = refl
 in_vec n (Some v) = refl
 
-pub runs_value : (mode : Mode) (env : Env) (start now : ℕ) (all left : List Range) (runs : Option (Vec Run Global))
+no_ranges_left : (mode : Mode) (env : Env) (left : List Range) → left ≡ [] → met_ranges mode env (ranges_of left) ≡ []
+unfolding met_ranges ranges_of
+no_ranges_left mode env left none = ap (λ l. met_ranges mode env (ranges_of l)) none
+
+pub runs_end : (mode : Mode) (env : Env) (start now : Meter) (all left : List Range) (runs : Option (Vec Run Global))
     → RunsSoFar mode env start now all left (option_map (λ v. v.items) runs) → left ≡ []
-    → (n : ℤ) → option_map (λ v. runs_have n v.items) runs ≡ has_in n (range_values mode env (ranges_of all))
+    → Told mode start now (met_ranges mode env (ranges_of all)) ((n : ℤ) → option_map (λ v. runs_have n v.items) runs ≡ has_in n (range_values mode env (ranges_of all)))
 unfolding range_values ranges_of has_number
-runs_value mode env start now all left runs h none n =
+runs_end mode env start now all left runs g none =
+    going_ends start now _ _ g (no_ranges_left mode env left none)
+    (λ known n.
     in_vec n runs
-    ∙ sym (h.same n ∙ ap (λ l. map_both (λ b c. b || c) (option_map (runs_have n) (option_map (λ v. v.items) runs)) (has_in n (range_values mode env (ranges_of l)))) none
-    ∙ or_last (option_map (runs_have n) (option_map (λ v. v.items) runs)))
+    ∙ sym (known n ∙ ap (λ l. map_both (λ b c. b || c) (option_map (runs_have n) (option_map (λ v. v.items) runs)) (has_in n (range_values mode env (ranges_of l)))) none
+    ∙ or_last (option_map (runs_have n) (option_map (λ v. v.items) runs))))
 
 -- ---- a set of the numbers of runs
 

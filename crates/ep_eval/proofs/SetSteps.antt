@@ -3,7 +3,7 @@ use Rattle.std.proofs.Common.{◌≡◌, ℕ, ◌+◌, ◌<◌, ◌≤◌, Bool,
 use Rattle.std.specs.Prelude.{int_le, int_lt}
 use Rattle.std.specs.Int.{int_max, int_min}
 use Rattle.std.specs.Ordering.{int_eq}
-use Rattle.std.specs.List.{Any, Contains, list_any}
+use Rattle.std.specs.List.{Any, Contains}
 use Rattle.std.proofs.lemmas.Int.{ints}
 use Rattle.std.proofs.lemmas.List.{take_all, take_more}
 use Rattle.std.proofs.lemmas.List.Folds.{list_any-append}
@@ -34,13 +34,6 @@ has_all n runs i h = ap (runs_have n) (take_all i runs h)
 pub or_none : (b : Bool) → b ≡ (b || false)
 or_none true = refl
 or_none false = refl
-
--- a run without a number
-pub empty_has : (n lo hi : ℤ) (b : Bool) → int_le lo hi ≡ false → b ≡ (b || (int_le lo n && int_le n hi))
-empty_has n lo hi b h = or_none b ∙ ap (λ x. b || x) (nothing n lo hi h)
-  where
-    nothing : (n lo hi : ℤ) → int_le lo hi ≡ false → false ≡ (int_le lo n && int_le n hi)
-    nothing n lo hi h = grind (arith, ints, h)
 
 pub overlap_has : (n a b c d : ℤ) → (int_le (int_max a c) n && int_le n (int_min b d)) ≡ ((int_le a n && int_le n b) && (int_le c n && int_le n d))
 overlap_has n a b c d = grind (arith, ints)
@@ -75,14 +68,7 @@ outside : (n a b lo hi : ℤ) (before : Bool) → ((before || ((int_le a n && in
 outside n a b lo hi true = refl
 outside n a b lo hi false = grind (arith, ints)
 
-pub outside_is : (n : ℤ) (run other : Run) (before : Bool) → ((before || (run_has n run && int_lt n other.lo)) || (run_has n run && int_lt other.hi n))
-    ≡ (before || (run_has n run && not (run_has n other)))
-outside_is n run other before = outside n run.lo run.hi other.lo other.hi before
-
 -- ---- loops over runs, in Booleans
-
-pub overlaps_none : (a c : Bool) → a ≡ (a || (false && c))
-overlaps_none a c = or_none a
 
 pub overlaps_one : (a b x c : Bool) → ((a || (b && c)) || (x && c)) ≡ (a || ((b || x) && c))
 overlaps_one true b x c = refl
@@ -90,10 +76,6 @@ overlaps_one false true x true = refl
 overlaps_one false true true false = refl
 overlaps_one false true false false = refl
 overlaps_one false false x c = refl
-
-pub both_one : (a b x : Bool) → ((a && b) || (a && x)) ≡ (a && (b || x))
-both_one true b x = refl
-both_one false b x = refl
 
 pub outside_one : (a x c : Bool) → ((a && not c) || (x && not c)) ≡ ((a || x) && not c)
 outside_one true x true = and_last x
@@ -103,15 +85,6 @@ outside_one true x true = and_last x
     and_last false = refl
 outside_one true x false = refl
 outside_one false x c = refl
-
-pub alone_none : (a : Bool) → a ≡ (a && not false)
-alone_none true = refl
-alone_none false = refl
-
-pub alone_one : (a b x : Bool) → ((a && not b) && not x) ≡ (a && not (b || x))
-alone_one true true x = refl
-alone_one true false x = refl
-alone_one false b x = refl
 
 -- ---- sets
 
@@ -160,19 +133,3 @@ without_more n runs i d other old new within was is =
     is ∙ ap (λ b. b || (run_has n run && not (run_has n other))) was
     ∙ outside_one (runs_have n (take i runs)) (run_has n run) (run_has n other)
     ∙ ap (λ b. b && not (run_has n other)) (sym (has_at n runs i d within))
-
-pub intersection_more : (n : ℤ) (runs : List Run) (i : ℕ) (d : Run) (one old new : Bool) → i < length runs
-    → old ≡ (one && runs_have n (take i runs)) → new ≡ (old || (one && run_has n (get_or runs i d)))
-    → new ≡ (one && runs_have n (take (i + 1) runs))
-intersection_more n runs i d one old new within was is =
-    let run : Run = get_or runs i d in
-    is ∙ ap (λ b. b || (one && run_has n run)) was ∙ both_one one (runs_have n (take i runs)) (run_has n run)
-    ∙ ap (λ b. one && b) (sym (has_at n runs i d within))
-
-pub difference_more : (n : ℤ) (runs : List Run) (i : ℕ) (d : Run) (one old new : Bool) → i < length runs
-    → old ≡ (one && not (runs_have n (take i runs))) → new ≡ (old && not (run_has n (get_or runs i d)))
-    → new ≡ (one && not (runs_have n (take (i + 1) runs)))
-difference_more n runs i d one old new within was is =
-    let run : Run = get_or runs i d in
-    is ∙ ap (λ b. b && not (run_has n run)) was ∙ alone_one one (runs_have n (take i runs)) (run_has n run)
-    ∙ ap (λ b. one && not b) (sym (has_at n runs i d within))

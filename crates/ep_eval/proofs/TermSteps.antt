@@ -1,5 +1,5 @@
 -- Totals of terms one after another.
-use Rattle.std.proofs.Common.{◌≡◌, ℕ, ◌+◌, ◌*◌, ◌≤◌, Bool, List, [], ◌∷◌, ◌++◌, ℤ, pos, ◌+ℤ◌, ◌-ℤ◌, FitsSigned, SFits, w64, refl, sym, ap, subst, arith, ◌∙◌}
+use Rattle.std.proofs.Common.{true, false, ◌≡◌, ℕ, ◌+◌, ◌*◌, ◌≤◌, Bool, List, [], ◌∷◌, ◌++◌, ℤ, pos, ◌+ℤ◌, ◌-ℤ◌, FitsSigned, SFits, w64, refl, sym, ap, subst, arith, ◌∙◌}
 use Rattle.std.specs.Prelude.{Option, Some, None, option_map, neg_ℤ}
 use Rattle.std.specs.Int.{w128}
 use Rattle.std.proofs.lemmas.Int.{ints}
@@ -7,17 +7,15 @@ use Rattle.ep_base.specs.Numbers.{sum_of}
 use Rattle.ep_base.specs.Options.{map_both}
 use Rattle.ep_tree.specs.Environments.{Env}
 use Rattle.ep_tree.specs.Evaluation.{evaluate, number_in, signed, term_values}
-use Rattle.ep_tree.specs.Limits.{MOST_SIZE, limits_of_values}
 use Rattle.ep_tree.specs.Measures.{met, met_terms}
 use Rattle.ep_tree.specs.Values.{ValueTree, all_defined}
 use Rattle.ep_tree.specs.Views.{expr_tree, terms_of}
 use Rattle.ep_tree.specs.declared.syntax.Expr.{Expr}
 use Rattle.ep_tree.specs.declared.values.Mode.{Mode}
-use Rattle.ep_eval.proofs.FormParts.{meets_some}
-use Rattle.ep_eval.proofs.Walks.{Walked, walk_begins, walk_cause, walk_ends, walk_more}
-use Rattle.ep_eval.specs.Counting.{Counted, IsWithin}
-use Rattle.ep_eval.specs.Outcomes.{IsCause}
-use Rattle.ep_eval.specs.declared.errors.EvalError.{EvalError}
+use Rattle.ep_eval.specs.Counting.{IsWithin}
+use Rattle.ep_eval.proofs.MeterSteps.{going_begins, going_ends, going_more_at, joins, meets_some}
+use Rattle.ep_eval.specs.Meters.{Going, Told}
+use Rattle.ep_eval.specs.declared.meter.Meter.{Meter}
 
 nothing_more : (o : Option ℤ) → map_both ◌+ℤ◌ (Some (pos 0)) o ≡ o
 unfolding map_both
@@ -53,23 +51,18 @@ unfolding IsWithin
 wider a b None h k = tt
 wider a b (Some n) h k = omega (arith, h, k)
 
--- some terms are evaluated, and others are left
-pub record TotalSoFar (mode : Mode) (env : Env) (start now : ℕ) (terms left : List (Bool × Expr)) (total : Option ℤ) : Type 0 where
-  pub walked : Walked mode start now (met_terms mode env (terms_of terms)) (met_terms mode env (terms_of left))
-  pub value :
-      option_map sum_of (all_defined (term_values mode env (terms_of terms)))
-      ≡ map_both ◌+ℤ◌ total (option_map sum_of (all_defined (term_values mode env (terms_of left))))
-  pub within : IsWithin (now * 9223372036854775808) total
-  pub small : now ≤ MOST_SIZE
+-- some terms are evaluated, and others are left; the total is as small as so many numbers allow
+abbrev pub TotalSoFar : Mode → Env → Meter → Meter → List (Bool × Expr) → List (Bool × Expr) → Option ℤ → Type 0
+TotalSoFar mode env start now terms left total =
+    Going mode start now (met_terms mode env (terms_of terms)) (met_terms mode env (terms_of left))
+    ((option_map sum_of (all_defined (term_values mode env (terms_of terms)))
+    ≡ map_both ◌+ℤ◌ total (option_map sum_of (all_defined (term_values mode env (terms_of left)))))
+    × IsWithin (now.size * 9223372036854775808) total)
 
-pub total_begins : (mode : Mode) (env : Env) (start : ℕ) (terms : List (Bool × Expr)) → start ≤ MOST_SIZE → TotalSoFar mode env start start terms terms (Some (pos 0))
+pub total_begins : (mode : Mode) (env : Env) (start : Meter) (terms : List (Bool × Expr)) → TotalSoFar mode env start start terms terms (Some (pos 0))
 unfolding IsWithin
-total_begins mode env start terms h = record {
-  walked = walk_begins mode start (met_terms mode env (terms_of terms)) h;
-  value = sym (nothing_more (option_map sum_of (all_defined (term_values mode env (terms_of terms)))));
-  within = omega arith;
-  small = h;
-}
+total_begins mode env start terms =
+    going_begins (joins mode) start _ _ refl (sym (nothing_more (option_map sum_of (all_defined (term_values mode env (terms_of terms))))), omega arith)
 
 met_term : (mode : Mode) (env : Env) (term : Bool × Expr) (rest : List (Bool × Expr)) → met_terms mode env (terms_of (term ∷ rest)) ≡ met mode env (expr_tree term.1) ++ met_terms mode env (terms_of rest)
 unfolding met_terms terms_of
@@ -80,85 +73,81 @@ values_term : (mode : Mode) (env : Env) (term : Bool × Expr) (rest : List (Bool
 unfolding term_values terms_of
 values_term mode env term rest = refl
 
--- a total is small enough for one term more
-pub small_total : (mode : Mode) (env : Env) (start now : ℕ) (terms left : List (Bool × Expr)) (total : Option ℤ) → TotalSoFar mode env start now terms left total
-    → IsWithin 46116860184273879040000000 total
-small_total mode env start now terms left total h = wider (now * 9223372036854775808) 46116860184273879040000000 total (let s = h.small in omega (arith, s)) h.within
+-- what is added stays exact, and as small as one number more allows
+abbrev pub AddsUp : Option ℤ → Option ℤ → Option ℤ → Type 0
+AddsUp total term more =
+    (most : ℕ) → most ≤ 46116860184273879040000000 → IsWithin most total → (more ≡ map_both ◌+ℤ◌ total term) × IsWithin (most + 9223372036854775808) more
 
-pub total_goes_on : (mode : Mode) (env : Env) (start now after : ℕ) (terms left : List (Bool × Expr)) (total more : Option ℤ) (term : Bool × Expr) (rest : List (Bool × Expr)) (seen : Option ValueTree)
+pub total_goes_on : (mode : Mode) (env : Env) (start now after : Meter) (terms left : List (Bool × Expr)) (total more : Option ℤ) (term : Bool × Expr) (rest : List (Bool × Expr)) (seen : Option ValueTree)
     → TotalSoFar mode env start now terms left total → left ≡ term ∷ rest
-    → Counted mode now after (met mode env (expr_tree term.1)) → evaluate mode env (expr_tree term.1) ≡ seen
-    → more ≡ map_both ◌+ℤ◌ total (option_map (signed term.0) (number_in seen))
-    → ((most : ℕ) → IsWithin most total → IsWithin (most + 9223372036854775808) more)
+    → Told mode now after (met mode env (expr_tree term.1)) (evaluate mode env (expr_tree term.1) ≡ seen)
+    → AddsUp total (option_map (signed term.0) (number_in seen)) more
     → TotalSoFar mode env start after terms rest more
-total_goes_on mode env start now after terms left total more term rest seen h cut counted value is within = record {
-  walked = walk_more mode start now after _ _ (met mode env (expr_tree term.1)) _ h.walked (ap (λ l. met_terms mode env (terms_of l)) cut ∙ met_term mode env term rest) counted;
-  value =
-      h.value
-      ∙ ap (λ l. map_both ◌+ℤ◌ total (option_map sum_of (all_defined l)))
-      (ap (λ l. term_values mode env (terms_of l)) cut ∙ values_term mode env term rest
-      ∙ ap (λ v. option_map (signed term.0) (number_in v) ∷ term_values mode env (terms_of rest)) value)
-      ∙ ap (map_both ◌+ℤ◌ total) (total_more (option_map (signed term.0) (number_in seen)) (term_values mode env (terms_of rest)))
-      ∙ total_regrouped total (option_map (signed term.0) (number_in seen)) (option_map sum_of (all_defined (term_values mode env (terms_of rest))))
-      ∙ ap (λ o. map_both ◌+ℤ◌ o (option_map sum_of (all_defined (term_values mode env (terms_of rest))))) (sym is);
-  within =
-      wider (now * 9223372036854775808 + 9223372036854775808) (after * 9223372036854775808) more
-      (let one = meets_some mode env (expr_tree term.1) in let count = counted.count in omega (arith, one, count))
-      (within (now * 9223372036854775808) h.within);
-  small = counted.small;
-}
+total_goes_on mode env start now after terms left total more term rest seen g cut told adds =
+    going_more_at (joins mode) start now after _ _ (met mode env (expr_tree term.1)) _ g (ap (λ l. met_terms mode env (terms_of l)) cut ∙ met_term mode env term rest) told
+    (λ went known value.
+    let one = meets_some mode env (expr_tree term.1) in
+    let count = went.count in
+    let small = went.small one in
+    let next = adds (now.size * 9223372036854775808) (omega (arith, one, count, small)) known.1 in (
+      known.0
+          ∙ ap (λ l. map_both ◌+ℤ◌ total (option_map sum_of (all_defined l)))
+          (ap (λ l. term_values mode env (terms_of l)) cut ∙ values_term mode env term rest
+          ∙ ap (λ v. option_map (signed term.0) (number_in v) ∷ term_values mode env (terms_of rest)) value)
+          ∙ ap (map_both ◌+ℤ◌ total) (total_more (option_map (signed term.0) (number_in seen)) (term_values mode env (terms_of rest)))
+          ∙ total_regrouped total (option_map (signed term.0) (number_in seen)) (option_map sum_of (all_defined (term_values mode env (terms_of rest))))
+          ∙ ap (λ o. map_both ◌+ℤ◌ o (option_map sum_of (all_defined (term_values mode env (terms_of rest))))) (sym next.0),
+      wider (now.size * 9223372036854775808 + 9223372036854775808) (after.size * 9223372036854775808) more (omega (arith, one, count)) next.1,
+    ))
 
-pub total_cause : (mode : Mode) (env : Env) (start now : ℕ) (terms left : List (Bool × Expr)) (total : Option ℤ) (term : Bool × Expr) (rest : List (Bool × Expr))
-    → TotalSoFar mode env start now terms left total → left ≡ term ∷ rest
-    → (error : EvalError) → IsCause (limits_of_values mode now (met mode env (expr_tree term.1))) error
-    → IsCause (limits_of_values mode start (met_terms mode env (terms_of terms))) error
-total_cause mode env start now terms left total term rest h cut error cause =
-    walk_cause mode start now _ _ (met mode env (expr_tree term.1)) _ h.walked (ap (λ l. met_terms mode env (terms_of l)) cut ∙ met_term mode env term rest) error cause
-
-pub total_counted : (mode : Mode) (env : Env) (start now : ℕ) (terms left : List (Bool × Expr)) (total : Option ℤ)
-    → TotalSoFar mode env start now terms left total → left ≡ [] → Counted mode start now (met_terms mode env (terms_of terms))
+no_terms_left : (mode : Mode) (env : Env) (left : List (Bool × Expr)) → left ≡ [] → met_terms mode env (terms_of left) ≡ []
 unfolding met_terms terms_of
-total_counted mode env start now terms left total h none =
-    walk_ends mode start now _ (subst (λ l. Walked mode start now (met_terms mode env (terms_of terms)) (met_terms mode env (terms_of l))) none h.walked)
+no_terms_left mode env left none = ap (λ l. met_terms mode env (terms_of l)) none
 
-pub total_value : (mode : Mode) (env : Env) (start now : ℕ) (terms left : List (Bool × Expr)) (total : Option ℤ)
-    → TotalSoFar mode env start now terms left total → left ≡ [] → total ≡ option_map sum_of (all_defined (term_values mode env (terms_of terms)))
+pub total_ends : (mode : Mode) (env : Env) (start now : Meter) (terms left : List (Bool × Expr)) (total : Option ℤ)
+    → TotalSoFar mode env start now terms left total → left ≡ []
+    → Told mode start now (met_terms mode env (terms_of terms)) (total ≡ option_map sum_of (all_defined (term_values mode env (terms_of terms))))
 unfolding term_values terms_of all_defined sum_of
-total_value mode env start now terms left total h none =
-    sym (h.value ∙ ap (λ l. map_both ◌+ℤ◌ total (option_map sum_of (all_defined (term_values mode env (terms_of l))))) none ∙ nothing_behind total)
+total_ends mode env start now terms left total g none =
+    going_ends start now _ _ g (no_terms_left mode env left none)
+    (λ known. sym (known.0 ∙ ap (λ l. map_both ◌+ℤ◌ total (option_map sum_of (all_defined (term_values mode env (terms_of l))))) none ∙ nothing_behind total))
 
 -- ---- one term more
 
-pub added : (sum n : ℤ) (plus : Bool) (total term : Option ℤ) (result : ℤ) → total ≡ Some sum → term ≡ Some n → result ≡ sum +ℤ signed plus n
-    → Some result ≡ map_both ◌+ℤ◌ total (option_map (signed plus) term)
-unfolding map_both
-added sum n plus total term result t m is =
-    ap Some is ∙ ap (λ o. map_both ◌+ℤ◌ o (option_map (signed plus) (Some n))) (sym t) ∙ ap (λ o. map_both ◌+ℤ◌ total (option_map (signed plus) o)) (sym m)
-
-pub without_total : (plus : Bool) (total term : Option ℤ) → total ≡ None → None ≡ map_both ◌+ℤ◌ total (option_map (signed plus) term)
-unfolding map_both
-without_total plus total term t = ap (λ o. map_both ◌+ℤ◌ o (option_map (signed plus) term)) (sym t)
-
-pub without_term : (sum : ℤ) (plus : Bool) (total term : Option ℤ) → total ≡ Some sum → term ≡ None → None ≡ map_both ◌+ℤ◌ total (option_map (signed plus) term)
-unfolding map_both
-without_term sum plus total term t m =
-    ap (λ o. map_both ◌+ℤ◌ o (option_map (signed plus) None)) (sym t) ∙ ap (λ o. map_both ◌+ℤ◌ total (option_map (signed plus) o)) (sym m)
-
-pub fits_more : (s n : ℤ) → IsWithin 46116860184273879040000000 (Some s) → SFits w64 n → FitsSigned w128 (s +ℤ n)
+sum_within : (most : ℕ) (s n : ℤ) → IsWithin most (Some s) → SFits w64 n → IsWithin (most + 9223372036854775808) (Some (s +ℤ n))
 unfolding IsWithin
-fits_more s n h k = omega (arith, ints, h, k)
+sum_within most s n h k = omega (arith, ints, h, k)
 
-pub fits_less : (s n : ℤ) → IsWithin 46116860184273879040000000 (Some s) → SFits w64 n → FitsSigned w128 (s -ℤ n)
+sum_fits : (most : ℕ) (s n : ℤ) → most ≤ 46116860184273879040000000 → IsWithin most (Some s) → SFits w64 n → FitsSigned w128 (s +ℤ n)
 unfolding IsWithin
-fits_less s n h k = omega (arith, ints, h, k)
+sum_fits most s n b h k = omega (arith, ints, b, h, k)
 
-pub more_within : (most : ℕ) (s n : ℤ) → IsWithin most (Some s) → SFits w64 n → IsWithin (most + 9223372036854775808) (Some (s +ℤ n))
-unfolding IsWithin
-more_within most s n h k = omega (arith, ints, h, k)
-
-pub less_within : (most : ℕ) (s n : ℤ) → IsWithin most (Some s) → SFits w64 n → IsWithin (most + 9223372036854775808) (Some (s -ℤ n))
+less_within : (most : ℕ) (s n : ℤ) → IsWithin most (Some s) → SFits w64 n → IsWithin (most + 9223372036854775808) (Some (s +ℤ neg_ℤ n))
 unfolding IsWithin
 less_within most s n h k = omega (arith, ints, h, k)
 
-pub less_is : (s n : ℤ) → s -ℤ n ≡ s +ℤ neg_ℤ n
-less_is s n = omega (arith, ints)
+less_fits : (most : ℕ) (s n : ℤ) → most ≤ 46116860184273879040000000 → IsWithin most (Some s) → SFits w64 n → FitsSigned w128 (s +ℤ neg_ℤ n)
+unfolding IsWithin
+less_fits most s n b h k = omega (arith, ints, b, h, k)
+
+-- where both are there, and the sum is taken where it fits
+pub adds_number : (plus : Bool) (s n m : ℤ) (total term more : Option ℤ) → total ≡ Some s → term ≡ Some n → SFits w64 n → m ≡ signed plus n
+    → (FitsSigned w128 (s +ℤ m) → more ≡ Some (s +ℤ m)) → AddsUp total (option_map (signed plus) term) more
+unfolding signed map_both
+adds_number plus s n m total term more t u fits is sum =
+    subst (λ o. AddsUp o (option_map (signed plus) term) more) (sym t)
+    (subst (λ o. AddsUp (Some s) (option_map (signed plus) o) more) (sym u) (by plus m is sum))
+  where
+    by : (plus : Bool) (m : ℤ) → m ≡ signed plus n → (FitsSigned w128 (s +ℤ m) → more ≡ Some (s +ℤ m)) → AddsUp (Some s) (Some (signed plus n)) more
+    by true m is sum = λ most b h.
+        let e : more ≡ Some (s +ℤ n) = subst (λ x. FitsSigned w128 (s +ℤ x) → more ≡ Some (s +ℤ x)) is sum (sum_fits most s n b h fits) in
+        (e, subst (IsWithin (most + 9223372036854775808)) (sym e) (sum_within most s n h fits))
+    by false m is sum = λ most b h.
+        let e : more ≡ Some (s +ℤ neg_ℤ n) = subst (λ x. FitsSigned w128 (s +ℤ x) → more ≡ Some (s +ℤ x)) is sum (less_fits most s n b h fits) in
+        (e, subst (IsWithin (most + 9223372036854775808)) (sym e) (less_within most s n h fits))
+
+-- where one isn't there
+pub adds_none : (total term : Option ℤ) → ((s : ℤ) → total ≡ Some s → term ≡ None) → AddsUp total term None
+unfolding map_both IsWithin
+adds_none None term h = λ most b k. (refl, tt)
+adds_none (Some s) term h = λ most b k. (sym (ap (map_both ◌+ℤ◌ (Some s)) (h s refl)), tt)

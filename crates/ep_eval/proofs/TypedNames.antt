@@ -29,7 +29,7 @@ use Rattle.ep_eval.proofs.DomainTypes.{index_is, pass_append}
 use Rattle.ep_eval.proofs.JudgingForms.{first_all, given_by, typed_more}
 use Rattle.ep_eval.specs.Bounds.{only_domain}
 use Rattle.ep_eval.specs.Judging.{all_pass, domain_type_at, list_of, name_scalar, passes, quantified_part, type_of_quantifier, type_at, type_if}
-use Rattle.ep_eval.specs.Literals.{index_at}
+use Rattle.ep_forms.specs.Forms.{index_at}
 use Rattle.ep_eval.specs.Typing.{AreNamesTyped, inside_names, readings, typed_meaning, with_typed}
 use Rattle.ep_eval.specs.declared.rules.Wanted.{Wanted}
 use Rattle.ep_eval.specs.declared.within.TypedName.{TypedName}

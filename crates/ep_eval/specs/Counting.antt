@@ -1,13 +1,11 @@
 -- What evaluation has met so far, and what refuses it.
-use Rattle.std.specs.Prelude.{◌≡◌, ◌⊎◌, ◌&&◌, ◌||◌, ℤ, nat_abs, ℕ, ◌+◌, ◌≤◌, Bool, true, false, Result, Ok, Err, List, [], ◌∷◌, length, flat_map, Option, Some, None, option_to_list, Contains}
+use Rattle.std.specs.Prelude.{◌≡◌, ◌&&◌, ◌||◌, ℤ, nat_abs, ℕ, ◌+◌, ◌≤◌, Bool, true, false, Result, Ok, Err, List, length, flat_map, Option, Some, None, option_to_list}
 use Rattle.std.specs.List.{list_any}
 use Rattle.ep_base.specs.Reads.{is_too_far}
 use Rattle.ep_base.specs.declared.operators.Limit.{Limit as LimitName}
-use Rattle.ep_tree.specs.Environments.{Env}
-use Rattle.ep_tree.specs.Evaluation.{all_true, any_true, evaluate, number_in, truth_in}
-use Rattle.ep_tree.specs.Limits.{MOST_SIZE, limits_of_values, numbers_at}
-use Rattle.ep_tree.specs.Measures.{Met, a_node, met}
-use Rattle.ep_tree.specs.Trees.{ExprTree}
+use Rattle.ep_tree.specs.Evaluation.{all_true, any_true, number_in, truth_in}
+use Rattle.ep_tree.specs.Limits.{MOST_SIZE, numbers_at}
+use Rattle.ep_tree.specs.Measures.{Met}
 use Rattle.ep_tree.specs.Values.{ValueTree}
 use Rattle.ep_tree.specs.declared.syntax.BinaryOp.{BinaryOp}
 use Rattle.ep_tree.specs.declared.values.Mode.{Mode}
@@ -22,46 +20,9 @@ pub record Counted (mode : Mode) (before after : ℕ) (ms : List Met) : Type 0 w
   pub small : after ≤ MOST_SIZE
   pub near : list_any is_too_far (flat_map (numbers_at mode) ms) ≡ false
 
--- what the parts of a node meet: all that it meets but itself
-unfoldable pub all_but_first : List Met → List Met
-all_but_first [] = []
-all_but_first (m ∷ ms) = ms
-
-abbrev pub met_below : Mode → Env → ExprTree → List Met
-met_below mode env e = all_but_first (met mode env e)
-
 -- whether a value is a number too far from 0
 abbrev pub is_far_value : Option ValueTree → Bool
 is_far_value v = list_any is_too_far (option_to_list (number_in v))
-
--- whether one of the numbers at a node is too far from 0
-abbrev pub is_far_node : Mode → Env → ExprTree → Bool
-is_far_node mode env e = list_any is_too_far (numbers_at mode (a_node env e))
-
--- a node that meets itself first, and whose value is among its numbers
-pub record IsNode (mode : Mode) (env : Env) (e : ExprTree) : Type 0 where
-  pub first : met mode env e ≡ a_node env e ∷ met_below mode env e
-  pub far : is_far_value (evaluate mode env e) ≡ true → is_far_node mode env e ≡ true
-
--- a node whose only number is its value
-pub record IsPlain (mode : Mode) (env : Env) (e : ExprTree) : Type 0 where
-  pub first : met mode env e ≡ a_node env e ∷ met_below mode env e
-  pub own : numbers_at mode (a_node env e) ≡ option_to_list (number_in (evaluate mode env e))
-
--- what the parts of a node gave: its value, and how many nodes were met by then
-pub record Evaluated (mode : Mode) (env : Env) (e : ExprTree) (before after : ℕ) (v : Option ValueTree) : Type 0 where
-  pub node : IsNode mode env e
-  pub near : is_far_value v ≡ false → is_far_node mode env e ≡ false
-  pub counted : Counted mode before after (met_below mode env e)
-  pub value : evaluate mode env e ≡ v
-
--- a node is refused: a part of it is, or one of its own numbers is too far from 0
-abbrev pub IsRefused : Mode → Env → ExprTree → ℕ → EvalError → Type 0
-IsRefused mode env e before Memory = Unit {0}
-IsRefused mode env e before (Limit l) =
-    (Contains (limits_of_values mode before (met_below mode env e)) l
-    ⊎ ((l ≡ LimitName.Reach) × (is_far_node mode env e ≡ true)))
-    × IsNode mode env e
 
 -- a value is refused: it is a number too far from 0
 abbrev pub IsTooFar : Option ValueTree → EvalError → Type 0

@@ -27,6 +27,11 @@ unfoldable pub gathered_with_more : Gathered → List (Option ValueTree) → Gat
 gathered_with_more (Truths every truth) vs = Truths every (map_both (together every) truth (of_all every vs))
 gathered_with_more (Total total) vs = Total (map_both ◌+ℤ◌ total (option_map sum_of (all_numbers vs)))
 
+-- what all instances give, where the domain is defined
+unfoldable pub gathered_of : QuantOp → Option (List (Option ValueTree)) → Gathered
+gathered_of op None = none_at_all op
+gathered_of op (Some vs) = gathered_with_more (nothing_yet op) vs
+
 -- the value of the quantifier
 unfoldable pub worth : Mode → Gathered → Option ValueTree
 worth mode (Truths every truth) = truth_in mode truth

@@ -9,7 +9,7 @@ use Rattle.ep_tree.specs.Trees.{ExprTree, ExprTrees, Generators, generator_and, 
 use Rattle.ep_tree.specs.Values.{ValueTree}
 use Rattle.ep_tree.specs.Views.{domain_tree, expr_tree, expr_trees, generators_of}
 use Rattle.ep_tree.specs.declared.values.Mode.{Mode}
-use Rattle.ep_eval.specs.declared.generating.Listing.{Listing}
+use Rattle.ep_forms.specs.declared.forms.Listing.{Listing}
 use Rattle.ep_eval.specs.declared.generating.Ranging.{Ranging}
 
 -- the parts of some lists, one list after another, where each list is there

@@ -5,15 +5,11 @@ use Rattle.ep_base.specs.declared.places.Place.{Place}
 use Rattle.ep_tree.specs.Environments.{Env, scalar_in, with_number}
 use Rattle.ep_tree.specs.Evaluation.{evaluate}
 use Rattle.ep_tree.specs.Measures.{Met, met}
-use Rattle.ep_tree.specs.Trees.{ExprTree, quantified}
+use Rattle.ep_forms.specs.Forms.{quantified_tree}
 use Rattle.ep_tree.specs.Values.{ValueTree}
-use Rattle.ep_tree.specs.Views.{domain_tree, expr_tree}
+use Rattle.ep_tree.specs.Views.{domain_tree}
 use Rattle.ep_tree.specs.declared.values.Mode.{Mode}
-use Rattle.ep_eval.specs.declared.gathering.Quantifier.{Quantifier}
-
--- a quantifier over some names
-abbrev pub quantified_tree : Place → Quantifier → List Name → ExprTree
-quantified_tree p q names = quantified p q.op names (domain_tree q.domain.now) (expr_tree q.body.now)
+use Rattle.ep_forms.specs.declared.forms.Quantifier.{Quantifier}
 
 -- the environment in which a name stands for a number
 abbrev pub instance_env : Env → Quantifier → Name → ℤ → Env

@@ -12,8 +12,9 @@ pub mod Generating
 pub mod Walking
 pub mod Scalars
 pub mod Instances
-pub mod Ranks
 pub mod Reading
 pub mod Literals
+pub mod Meters
+pub mod Worths
 pub mod Typing
 pub mod Judging

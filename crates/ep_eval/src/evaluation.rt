@@ -15,11 +15,12 @@ ghost use Rattle.ep_eval.specs.Outcomes.{IsCause, seen_value};
 ghost use Rattle.ep_eval.specs.Scopes.{env_in};
 
 use super::copies::given_value;
+use super::counted::{numbers_after, value_after};
 use super::environments::Env;
 use super::errors::EvalError;
-use super::evaluating::{MOST_SIZE, numbers_of, value_of};
 use super::held::Held;
 use super::judging::{domain_type, type_of};
+use super::meter::MOST_SIZE;
 use super::scopes::{Around, Scope};
 use super::within::Within;
 use ep_base::{Limit, Memory, Runs};
@@ -65,7 +66,7 @@ pub fn evaluate_after(
         around: &Around::Nothing,
     };
     let mut met = before;
-    let seen = value_of(scope, &mut met, e)?;
+    let seen = value_after(scope, &mut met, e)?;
     let given = given(alloc, seen)?;
     Ok((given, met))
 }
@@ -115,7 +116,7 @@ pub fn domain_values_after(
         return Err(EvalError::Limit(Limit::Size));
     }
     let mut met = before;
-    let values = numbers_of(scope, &mut met, d)?;
+    let values = numbers_after(scope, &mut met, d)?;
     Ok((values, met))
 }
 

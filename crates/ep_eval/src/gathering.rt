@@ -1,6 +1,6 @@
 //! What the instances of a quantifier give, one after another.
 
-ghost use Rattle.std.specs.Prelude.{◌≡◌, ◌+◌, ◌∷◌, [], ℕ};
+ghost use Rattle.std.specs.Prelude.{◌≡◌, ◌+◌, ◌≤◌, ◌∷◌, [], ℕ};
 ghost use Rattle.ep_eval.specs.Counting.{Gives};
 ghost use Rattle.ep_eval.specs.Gathering.{IsSmall, none_at_all, nothing_yet, gathered_with_more, worth};
 ghost use Rattle.ep_eval.specs.Helds.{seen_held};
@@ -10,15 +10,7 @@ use super::errors::EvalError;
 use super::forms::{together, truth_value};
 use super::held::{Held, number_of, truth_seen};
 use super::totals::with_term;
-use ep_tree::{Domain, Expr, Mode, QuantOp};
-
-/// A quantifier but for its names.
-#[derive(Clone, Copy)]
-pub struct Quantifier<'e> {
-    pub op: QuantOp,
-    pub domain: &'e Domain,
-    pub body: &'e Expr,
-}
+use ep_tree::{Mode, QuantOp};
 
 /// What some instances gave.
 #[derive(Clone, Copy)]
@@ -55,9 +47,9 @@ pub fn without_domain(op: QuantOp) -> Gathered
 
 /// What is gathered with what an instance showed.
 fn with_seen(gathered: Gathered, seen: &Option<Held>) -> Gathered
-    requires small { IsSmall 46116860184273879040000000 gathered }
-    ensures more { result ≡ gathered_with_more gathered (seen_held seen.now ∷ []) }
-    ensures small { (most : ℕ) → IsSmall most gathered → IsSmall (most + 9223372036854775808) result }
+    ensures { (most : ℕ) → most ≤ 46116860184273879040000000 → IsSmall most gathered
+        → (result ≡ gathered_with_more gathered (seen_held seen.now ∷ []))
+        × IsSmall (most + 9223372036854775808) result }
 {
     match gathered {
         Gathered::Truths(every, truth) => {
@@ -69,9 +61,9 @@ fn with_seen(gathered: Gathered, seen: &Option<Held>) -> Gathered
 
 /// What is gathered with an instance more.
 pub fn with_instance(gathered: Gathered, seen: Option<Held>) -> Gathered
-    requires small { IsSmall 46116860184273879040000000 gathered }
-    ensures more { result ≡ gathered_with_more gathered (seen_held seen.entry ∷ []) }
-    ensures small { (most : ℕ) → IsSmall most gathered → IsSmall (most + 9223372036854775808) result }
+    ensures { (most : ℕ) → most ≤ 46116860184273879040000000 → IsSmall most gathered
+        → (result ≡ gathered_with_more gathered (seen_held seen.entry ∷ []))
+        × IsSmall (most + 9223372036854775808) result }
 {
     with_seen(gathered, &seen)
 }

@@ -4,14 +4,8 @@ ghost use Rattle.std.specs.Prelude.{◌≡◌};
 ghost use Rattle.ep_eval.specs.Generating.{how_many};
 ghost use Rattle.ep_eval.specs.Literals.{listed_in};
 
-use ep_tree::{Domain, Expr, Generator, Value};
-
-/// What a comprehension lists, and under which conditions.
-#[derive(Clone, Copy)]
-pub struct Listing<'e> {
-    pub body: &'e Expr,
-    pub conditions: &'e [Expr],
-}
+use ep_forms::Listing;
+use ep_tree::{Domain, Generator, Value};
 
 /// What the names of a generator range over, and the generators behind it.
 #[derive(Clone, Copy)]

@@ -5,7 +5,7 @@ ghost use Rattle.ep_tree.specs.Environments.{context_of};
 ghost use Rattle.ep_tree.specs.Types.{all_typed, inside_all, judge_all, judge_domains, judge_generators, judge_index, judge_indices, judge_ranges, judge_terms};
 ghost use Rattle.ep_tree.specs.Views.{domain_tree, domains_of, expr_tree, expr_trees, generators_of, indices_of, ranges_of, terms_of};
 ghost use Rattle.ep_eval.specs.Judging.{all_pass, domain_type_at, passes, type_at};
-ghost use Rattle.ep_eval.specs.Literals.{index_at};
+ghost use Rattle.ep_forms.specs.Forms.{index_at};
 ghost use Rattle.ep_eval.specs.Ranges.{alone};
 ghost use Rattle.ep_eval.specs.Scopes.{env_in};
 ghost use Rattle.ep_eval.specs.Typing.{AreNamesTyped, context_in, inside_names, readings};

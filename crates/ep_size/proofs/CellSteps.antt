@@ -15,10 +15,10 @@ use Rattle.ep_size.specs.Causes.{IsTooMany}
 use Rattle.ep_size.specs.Totals.{Celled, all_cells, capped}
 use Rattle.ep_size.specs.declared.errors.SizeError.{SizeError}
 use Rattle.ep_size.specs.declared.errors.SizeError.TheVariants.{Limit, Memory}
-use Rattle.ep_size.specs.declared.totals.Totals.{Totals}
+use Rattle.ep_size.specs.declared.cells.CellTotals.{CellTotals}
 
 -- what is known of the cells of some decision variables, and of the names that stand for them
-pub record CellsSoFar (totals : Totals) (now start : Env) (finds : List Find) : Type 0 where
+pub record CellsSoFar (totals : CellTotals) (now start : Env) (finds : List Find) : Type 0 where
   pub celled : Celled totals (map find_of finds)
   pub known : now ≡ put_all (cells_bound (map find_of finds)) start
 
@@ -27,7 +27,7 @@ unfolding put_all cells_bound
 cells_begin env = record { celled = record { size = refl; small = omega arith; weight = refl }; known = refl }
 
 -- one decision variable more, in front
-pub cells_more : (before after : Totals) (now next start : Env) (f : Find) (fs : List Find) → CellsSoFar before now start fs
+pub cells_more : (before after : CellTotals) (now next start : Env) (f : Find) (fs : List Find) → CellsSoFar before now start fs
     → after.size ≡ before.size + cell_count f.indices.items → after.size ≤ MOST_SIZE
     → after.weight ≡ capped (before.weight + cell_count f.indices.items * length f.values)
     → next ≡ put f.name (has_cells (scalar_of f.ty) f.indices.items f.values) now
@@ -58,7 +58,7 @@ cells_from (f ∷ fs) (suc k) =
     omega (arith, rest, cut)
 
 -- too many cells from one decision variable on are too many
-pub cells_refused : (finds : List Find) (k : ℕ) (f : Find) (fs : List Find) (before : Totals) (now start : Env) (error : SizeError)
+pub cells_refused : (finds : List Find) (k : ℕ) (f : Find) (fs : List Find) (before : CellTotals) (now start : Env) (error : SizeError)
     → drop k finds ≡ f ∷ fs → CellsSoFar before now start fs
     → IsTooMany (before.size + cell_count f.indices.items) error → IsTooMany (all_cells (map find_of finds)) error
 cells_refused finds k f fs before now start Memory cut h cause = tt

@@ -1,69 +1,51 @@
 -- Clauses that are measured one after another.
-use Rattle.std.proofs.Common.{◌≡◌, ℕ, ◌+◌, ◌<◌, List, [], ◌∷◌, ◌++◌, length, take, drop, get_or, refl, sym, ap, subst, ◌∙◌}
+use Rattle.std.proofs.Common.{◌≡◌, List, [], ◌∷◌, ◌++◌, refl, sym, ap, ◌∙◌}
 use Rattle.std.specs.Prelude.{map}
-use Rattle.std.proofs.lemmas.List.{append-nil, map-append, take-append-drop, take_more}
-use Rattle.std.proofs.lemmas.Grind.{flat_map-append}
+use Rattle.std.proofs.lemmas.List.{append-nil}
 use Rattle.ep_tree.specs.Binding.{met_in}
 use Rattle.ep_tree.specs.Environments.{Env}
-use Rattle.ep_tree.specs.Measures.{Met, met, met_all}
-use Rattle.ep_tree.specs.Solutions.{limits_passed}
+use Rattle.ep_tree.specs.Measures.{Met, met}
 use Rattle.ep_tree.specs.Trees.{ExprTree}
-use Rattle.ep_tree.specs.Views.{expr_tree, expr_trees}
+use Rattle.ep_tree.specs.Views.{expr_tree}
 use Rattle.ep_tree.specs.declared.syntax.Expr.{Expr}
 use Rattle.ep_tree.specs.declared.values.Mode.{Mode}
-use Rattle.ep_size.proofs.Measurings.{cause_first, cause_then, measured_append}
-use Rattle.ep_size.specs.Causes.{IsCause}
-use Rattle.ep_size.specs.Totals.{Measured}
-use Rattle.ep_size.specs.declared.errors.SizeError.{SizeError}
+use Rattle.ep_size.proofs.MeterSteps.{going_begins, going_ends, going_more}
+use Rattle.ep_size.specs.Meters.{Going, Told}
 use Rattle.ep_size.specs.declared.totals.Totals.{Totals}
 
 -- what some clauses meet
 abbrev pub met_clauses : Mode → Env → List Expr → List Met
 met_clauses mode env clauses = met_in mode env (map expr_tree clauses)
 
-met_append : (mode : Mode) (env : Env) (xs ys : List Expr) → met_clauses mode env (xs ++ ys) ≡ met_clauses mode env xs ++ met_clauses mode env ys
+-- some clauses are measured, and these are left
+abbrev pub ClausesSoFar : Mode → Env → Totals → Totals → List Expr → List Expr → Type 0
+ClausesSoFar mode env start now all left = Going mode start now (met_clauses mode env all) (met_clauses mode env left) (Unit {0})
+
+pub clauses_begin : (mode : Mode) (env : Env) (start : Totals) (all : List Expr) → ClausesSoFar mode env start start all all
+clauses_begin mode env start all = going_begins mode start _ _ refl tt
+
+met_first : (mode : Mode) (env : Env) (x : Expr) (xs : List Expr) → met_clauses mode env (x ∷ xs) ≡ met mode env (expr_tree x) ++ met_clauses mode env xs
 unfolding met_in
-met_append mode env xs ys =
-    ap (met_in mode env) (map-append expr_tree xs ys) ∙ flat_map-append (met mode env) (map expr_tree xs) (map expr_tree ys)
+met_first mode env x xs = refl
 
-met_alone : (mode : Mode) (env : Env) (x : Expr) → met_clauses mode env (x ∷ []) ≡ met mode env (expr_tree x)
+pub clauses_more : (mode : Mode) (env : Env) (start now after : Totals) (all left : List Expr) (x : Expr) (rest : List Expr) → ClausesSoFar mode env start now all left
+    → left ≡ x ∷ rest → Told mode now after (met mode env (expr_tree x)) (Unit {0}) → ClausesSoFar mode env start after all rest
+clauses_more mode env start now after all left x rest g cut told =
+    going_more mode start now after _ _ (met mode env (expr_tree x)) _ g (ap (met_clauses mode env) cut ∙ met_first mode env x rest) told (λ p q. tt)
+
+none_left : (mode : Mode) (env : Env) → met_clauses mode env [] ≡ []
 unfolding met_in
-met_alone mode env x = append-nil (met mode env (expr_tree x))
+none_left mode env = refl
 
-met_more : (mode : Mode) (env : Env) (xs : List Expr) (k : ℕ) (x d : Expr) → k < length xs → x ≡ get_or xs k d
-    → met_clauses mode env (take (k + 1) xs) ≡ met_clauses mode env (take k xs) ++ met mode env (expr_tree x)
-met_more mode env xs k x d h same =
-    ap (met_clauses mode env) (take_more xs k d h ∙ ap (λ y. take k xs ++ y ∷ []) (sym same))
-    ∙ met_append mode env (take k xs) (x ∷ []) ∙ ap (λ ms. met_clauses mode env (take k xs) ++ ms) (met_alone mode env x)
-
--- one clause more is measured
-pub clause_measured : (mode : Mode) (env : Env) (a b c : Totals) (xs : List Expr) (k : ℕ) (x d : Expr) → k < length xs → x ≡ get_or xs k d
-    → Measured mode a b (met_clauses mode env (take k xs)) → Measured mode b c (met mode env (expr_tree x))
-    → Measured mode a c (met_clauses mode env (take (k + 1) xs))
-clause_measured mode env a b c xs k x d h same before one =
-    subst (λ ms. Measured mode a c ms) (sym (met_more mode env xs k x d h same))
-    (measured_append mode a b c (met_clauses mode env (take k xs)) (met mode env (expr_tree x)) before one)
-
--- what refuses a clause refuses them all
-pub clause_refused : (mode : Mode) (env : Env) (a b : Totals) (xs : List Expr) (k : ℕ) (x d : Expr) (error : SizeError) → k < length xs → x ≡ get_or xs k d
-    → Measured mode a b (met_clauses mode env (take k xs)) → IsCause (limits_passed mode b.size (met mode env (expr_tree x))) error
-    → IsCause (limits_passed mode a.size (met_clauses mode env xs)) error
-clause_refused mode env a b xs k x d error h same before cause =
-    let front : List Expr = take (k + 1) xs in
-    let all : met_clauses mode env xs ≡ met_clauses mode env front ++ met_clauses mode env (drop (k + 1) xs) =
-    ap (met_clauses mode env) (sym (take-append-drop (k + 1) xs)) ∙ met_append mode env front (drop (k + 1) xs) in
-    subst (λ ms. IsCause (limits_passed mode a.size ms) error) (sym all)
-    (cause_first mode a.size (met_clauses mode env front) (met_clauses mode env (drop (k + 1) xs)) error
-    (subst (λ ms. IsCause (limits_passed mode a.size ms) error) (sym (met_more mode env xs k x d h same))
-    (cause_then mode a b (met_clauses mode env (take k xs)) (met mode env (expr_tree x)) error before cause)))
+pub clauses_end : (mode : Mode) (env : Env) (start now : Totals) (all left : List Expr) → ClausesSoFar mode env start now all left → left ≡ []
+    → Told mode start now (met_clauses mode env all) (Unit {0})
+clauses_end mode env start now all left g none = going_ends mode start now _ _ g (ap (met_clauses mode env) none ∙ none_left mode env) (λ p. tt)
 
 -- one expression alone
 pub met_one : (mode : Mode) (env : Env) (e : ExprTree) → met mode env e ≡ met_in mode env (e ∷ [])
 unfolding met_in
 met_one mode env e = sym (append-nil (met mode env e))
 
--- what some parts meet is what they meet as clauses
-pub parts_meet : (mode : Mode) (env : Env) (xs : List Expr) → met_all mode env (expr_trees xs) ≡ met_clauses mode env xs
-unfolding met_in met_all expr_trees
-parts_meet mode env [] = refl
-parts_meet mode env (x ∷ xs) = ap (λ ms. met mode env (expr_tree x) ++ ms) (parts_meet mode env xs)
+pub met_none : (mode : Mode) (env : Env) → met_in mode env [] ≡ []
+unfolding met_in
+met_none mode env = refl

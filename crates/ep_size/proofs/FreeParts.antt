@@ -21,15 +21,15 @@ use Rattle.ep_size.specs.Free.{are_free, are_free_domains, are_free_generators, 
 abbrev pub Below : (Name → Bool) → (Name → Bool) → Type 0
 Below f g = (name : Name) → g name ≡ false → f name ≡ false
 
-and_one : (a b : Bool) → (a && b) ≡ true → a ≡ true
+pub and_one : (a b : Bool) → (a && b) ≡ true → a ≡ true
 and_one true b h = refl
 and_one false b h = h
 
-and_other : (a b : Bool) → (a && b) ≡ true → b ≡ true
+pub and_other : (a b : Bool) → (a && b) ≡ true → b ≡ true
 and_other true b h = h
 and_other false b h = absurd cc
 
-not_true : (b : Bool) → not b ≡ true → b ≡ false
+pub not_true : (b : Bool) → not b ≡ true → b ≡ false
 not_true true h = absurd cc
 not_true false h = refl
 

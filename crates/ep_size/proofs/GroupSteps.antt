@@ -1,5 +1,5 @@
 -- What is known of an expression in brackets.
-use Rattle.std.proofs.Common.{◌≡◌, Bool, true, false, List, ◌∷◌, ℤ, refl, sym, ap, ◌∙◌, arith}
+use Rattle.std.proofs.Common.{◌≡◌, ℕ, Bool, true, false, List, ◌∷◌, ℤ, refl, sym, ap, ◌∙◌, arith}
 use Rattle.ep_base.specs.declared.places.Place.{Place}
 use Rattle.ep_tree.proofs.ReachEquations.{extent-group, holds_decision-group}
 use Rattle.ep_tree.specs.Environments.{Env}
@@ -20,7 +20,6 @@ use Rattle.ep_size.specs.Extents.{IsKnownExtent, TellsValue, grid_of, plain_span
 use Rattle.ep_size.specs.Finishing.{Finished, IsLightNode, IsNumberNode}
 use Rattle.ep_size.specs.declared.extents.Extent.{Extent, Cells, Fixed, Matrix, Matrix', NoParts, Nothing, Number}
 use Rattle.ep_size.specs.declared.extents.Span.{Span}
-use Rattle.ep_size.specs.declared.totals.Totals.{Totals}
 
 -- ---- a node that weighs nothing
 
@@ -29,23 +28,23 @@ pub light_number : (mode : Mode) (env : Env) (e : ExprTree) (x : Extent) (s : Sp
 light_number mode env e x s is h = record { plain = h.plain; value = h.known.extent ∙ is; holds = h.holds; weight = h.weight }
 
 -- a matrix of cells is near
-pub light_cells : (mode : Mode) (env : Env) (e : ExprTree) (x : Extent) (t : Totals) (s : Span) (i : List ℤ) (is : List (List ℤ))
+pub light_cells : (mode : Mode) (env : Env) (e : ExprTree) (x : Extent) (t : ℕ) (s : Span) (i : List ℤ) (is : List (List ℤ))
     → grid_of x ≡ filled (plain_span s) (i ∷ is) → IsLightNode mode env e x → Finished mode env e t t x
 unfolding number_reach filled
 light_cells mode env e x t s i is grid h = record {
   near = near_nothing mode (a_node env e) (h.plain ∙ ap number_reach (h.known.extent ∙ grid));
   known = h.known;
-  added = record { size = refl; weight = let none = h.weight in omega (arith, none) };
+  added = let none = h.weight in omega (arith, none);
 }
 
 -- a matrix of parts is near
-pub light_matrix : (mode : Mode) (env : Env) (e : ExprTree) (t : Totals) (is : Vec ℤ Global) (parts : Vec Extent Global) → IsLightNode mode env e (Matrix is parts)
+pub light_matrix : (mode : Mode) (env : Env) (e : ExprTree) (t : ℕ) (is : Vec ℤ Global) (parts : Vec Extent Global) → IsLightNode mode env e (Matrix is parts)
     → Finished mode env e t t (Matrix is parts)
 unfolding number_reach
 light_matrix mode env e t is parts h = record {
   near = near_nothing mode (a_node env e) (h.plain ∙ ap number_reach (h.known.extent ∙ grid_of-matrix is parts));
   known = h.known;
-  added = record { size = refl; weight = let none = h.weight in omega (arith, none) };
+  added = let none = h.weight in omega (arith, none);
 }
 
 -- a decision variable doesn't both stand in an expression and not

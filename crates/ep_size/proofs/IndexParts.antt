@@ -1,13 +1,13 @@
 -- The parts of a list, and the indices that they get.
 use Rattle.std.proofs.Common.{◌≡◌, ℕ, ◌+◌, ◌<◌, ◌≤◌, ℤ, Bool, true, false, List, [], ◌∷◌, ◌++◌, length, take, get_or, pos, refl, sym, ap, subst, ◌∙◌, Some, None, Option}
 use Rattle.std.specs.Prelude.{map, if◌then◌else◌, ◌==◌}
-use Rattle.std.proofs.lemmas.List.{length-map, map-append, take_all, take_more}
+use Rattle.std.proofs.lemmas.List.{append-nil, append_assoc, length-map, map-append}
 use Rattle.ep_base.specs.Runs.{counting}
 use Rattle.ep_base.specs.declared.places.Place.{Place}
 use Rattle.ep_tree.proofs.ReachEquations.{extent-literal}
 use Rattle.ep_tree.specs.Environments.{Env}
 use Rattle.ep_tree.specs.Evaluation.{index_values}
-use Rattle.ep_tree.specs.Measures.{decided_weight, number_reach, reaches_at}
+use Rattle.ep_tree.specs.Measures.{decided_weight, met, met_all, number_reach, reaches_at}
 use Rattle.ep_tree.specs.Reach as defined
 use Rattle.ep_tree.specs.Reach.{decisions_in, extent, extents_of, holds_decision, matrix_extent, measured_indices}
 use Rattle.ep_tree.specs.Trees.{ExprTree, IndexDomain, literal}
@@ -16,35 +16,58 @@ use Rattle.ep_tree.specs.Views.{expr_tree, expr_trees}
 use Rattle.ep_tree.specs.declared.syntax.Expr.{Expr}
 use Rattle.ep_tree.specs.declared.values.Mode.{Mode}
 use Rattle.ep_size.proofs.FormSteps.{measured_decided, own_weight}
-use Rattle.ep_size.specs.Extents.{grid_of}
+use Rattle.ep_size.proofs.MeterSteps.{going_begins, going_ends, going_more}
+use Rattle.ep_size.specs.Extents.{IsKnownExtent, grid_of}
 use Rattle.ep_size.specs.Lists.{IsMatrixNode}
+use Rattle.ep_size.specs.Meters.{Going, Told}
 use Rattle.ep_size.specs.declared.extents.Extent.{Extent}
+use Rattle.ep_size.specs.declared.totals.Totals.{Totals}
 
 -- ---- what is known of some expressions
 
--- what is known of each
-abbrev pub extents_in : Mode → Env → List Expr → List defined.Extent
-extents_in mode env xs = map (λ x. extent mode env (expr_tree x)) xs
+-- some parts are known, and these are left
+abbrev pub PartsSoFar : Mode → Env → Totals → Totals → List Expr → List Expr → List Extent → Type 0
+PartsSoFar mode env start now all left known =
+    Going mode start now (met_all mode env (expr_trees all)) (met_all mode env (expr_trees left))
+    (map grid_of known ++ extents_of mode env (expr_trees left) ≡ extents_of mode env (expr_trees all))
 
-pub extents_listed : (mode : Mode) (env : Env) (xs : List Expr) → extents_of mode env (expr_trees xs) ≡ extents_in mode env xs
+pub parts_begin : (mode : Mode) (env : Env) (start : Totals) (all : List Expr) (known : List Extent) → known ≡ [] → PartsSoFar mode env start start all all known
+parts_begin mode env start all known none = going_begins mode start _ _ refl (ap (λ l. map grid_of l ++ extents_of mode env (expr_trees all)) none)
+
+pub met_first : (mode : Mode) (env : Env) (x : Expr) (xs : List Expr) → met_all mode env (expr_trees (x ∷ xs)) ≡ met mode env (expr_tree x) ++ met_all mode env (expr_trees xs)
+unfolding met_all expr_trees
+met_first mode env x xs = refl
+
+known_first : (mode : Mode) (env : Env) (x : Expr) (xs : List Expr) → extents_of mode env (expr_trees (x ∷ xs)) ≡ extent mode env (expr_tree x) ∷ extents_of mode env (expr_trees xs)
 unfolding extents_of expr_trees
-extents_listed mode env [] = refl
-extents_listed mode env (x ∷ xs) = ap (λ l. extent mode env (expr_tree x) ∷ l) (extents_listed mode env xs)
+known_first mode env x xs = refl
 
 -- one more
-pub extents_more : (mode : Mode) (env : Env) (xs : List Expr) (k : ℕ) (x d : Expr) (old new : List Extent) (y : Extent) → k < length xs → x ≡ get_or xs k d
-    → new ≡ old ++ y ∷ [] → extent mode env (expr_tree x) ≡ grid_of y → map grid_of old ≡ extents_in mode env (take k xs)
-    → map grid_of new ≡ extents_in mode env (take (k + 1) xs)
-extents_more mode env xs k x d old new y within same pushed known h =
-    let f : Expr → defined.Extent = λ e. extent mode env (expr_tree e) in
-    ap (map grid_of) pushed ∙ map-append grid_of old (y ∷ []) ∙ ap (λ l. l ++ grid_of y ∷ []) h
-    ∙ ap (λ g. map f (take k xs) ++ g ∷ []) (sym known)
-    ∙ sym (ap (map f) (take_more xs k d within ∙ ap (λ z. take k xs ++ z ∷ []) (sym same)) ∙ map-append f (take k xs) (x ∷ []))
+pub parts_more : (mode : Mode) (env : Env) (start now after : Totals) (all left : List Expr) (x : Expr) (rest : List Expr) (old new : List Extent) (y : Extent)
+    → PartsSoFar mode env start now all left old → left ≡ x ∷ rest → Told mode now after (met mode env (expr_tree x)) (IsKnownExtent mode env (expr_tree x) y) → new ≡ old ++ y ∷ []
+    → PartsSoFar mode env start after all rest new
+parts_more mode env start now after all left x rest old new y g cut told pushed =
+    let behind : List defined.Extent = extents_of mode env (expr_trees rest) in
+    going_more mode start now after _ _ (met mode env (expr_tree x)) _ g (ap (λ l. met_all mode env (expr_trees l)) cut ∙ met_first mode env x rest) told
+    (λ so_far known.
+    ap (λ l. map grid_of l ++ behind) pushed ∙ ap (λ l. l ++ behind) (map-append grid_of old (y ∷ [])) ∙ append_assoc (map grid_of old) (grid_of y ∷ []) behind
+    ∙ ap (λ g. map grid_of old ++ (g ∷ behind)) (sym known.extent) ∙ ap (λ l. map grid_of old ++ l) (sym (ap (λ l. extents_of mode env (expr_trees l)) cut ∙ known_first mode env x rest))
+    ∙ so_far)
+
+pub none_met : (mode : Mode) (env : Env) → met_all mode env (expr_trees []) ≡ []
+unfolding met_all expr_trees
+none_met mode env = refl
+
+none_known : (mode : Mode) (env : Env) → extents_of mode env (expr_trees []) ≡ []
+unfolding extents_of expr_trees
+none_known mode env = refl
 
 -- all of them
-pub extents_all : (mode : Mode) (env : Env) (xs : List Expr) (k : ℕ) (ys : List Extent) → length xs ≤ k → map grid_of ys ≡ extents_in mode env (take k xs)
-    → map grid_of ys ≡ extents_of mode env (expr_trees xs)
-extents_all mode env xs k ys past h = h ∙ ap (extents_in mode env) (take_all k xs past) ∙ sym (extents_listed mode env xs)
+pub parts_end : (mode : Mode) (env : Env) (start now : Totals) (all left : List Expr) (known : List Extent) → PartsSoFar mode env start now all left known → left ≡ []
+    → Told mode start now (met_all mode env (expr_trees all)) (map grid_of known ≡ extents_of mode env (expr_trees all))
+parts_end mode env start now all left known g none =
+    going_ends mode start now _ _ g (ap (λ l. met_all mode env (expr_trees l)) none ∙ none_met mode env)
+    (λ so_far. sym (append-nil (map grid_of known)) ∙ ap (λ l. map grid_of known ++ l) (sym (ap (λ l. extents_of mode env (expr_trees l)) none ∙ none_known mode env)) ∙ so_far)
 
 -- ---- indices
 
@@ -64,21 +87,20 @@ literal_grid ix set ys h =
     ap (λ l. matrix l (as_parts (map grid_of ys))) (sym (h (length (map grid_of ys))) ∙ ap (measured_indices set) (length-map ys grid_of))
 
 -- a list is a matrix of its parts
-pub literal_node : (mode : Mode) (env : Env) (p : Place) (tree : ExprTree) (xs : List Expr) (d : IndexDomain) (set : Option (List ℤ)) (ys : List Extent)
-    → tree ≡ literal p (expr_trees xs) d → holds_decision (decisions_in env) tree ≡ true → map grid_of ys ≡ extents_of mode env (expr_trees xs)
+pub literal_node : (mode : Mode) (env : Env) (p : Place) (xs : List Expr) (d : IndexDomain) (set : Option (List ℤ)) (ys : List Extent)
+    → holds_decision (decisions_in env) (literal p (expr_trees xs) d) ≡ true → map grid_of ys ≡ extents_of mode env (expr_trees xs)
     → ((n : ℕ) → measured_indices set n ≡ measured_indices (index_values mode env d n) n)
-    → IsMatrixNode mode env tree (matrix (measured_indices set (length ys)) (as_parts (map grid_of ys)))
+    → IsMatrixNode mode env (literal p (expr_trees xs) d) (matrix (measured_indices set (length ys)) (as_parts (map grid_of ys)))
 unfolding reaches_at decided_weight number_reach
-literal_node mode env p tree xs d set ys is holds known same =
+literal_node mode env p xs d set ys holds known same =
     let e : ExprTree = literal p (expr_trees xs) d in
-    let held : holds_decision (decisions_in env) e ≡ true = ap (holds_decision (decisions_in env)) (sym is) ∙ holds in
-    subst (λ t. IsMatrixNode mode env t (matrix (measured_indices set (length ys)) (as_parts (map grid_of ys)))) (sym is) (record {
+    record {
       plain = refl;
       none = refl;
       value =
           extent-literal mode env p (expr_trees xs) d
-          ∙ measured_decided mode env e (matrix_extent (index_values mode env d) (extents_of mode env (expr_trees xs))) held
+          ∙ measured_decided mode env e (matrix_extent (index_values mode env d) (extents_of mode env (expr_trees xs))) holds
           ∙ ap (matrix_extent (index_values mode env d)) (sym known) ∙ literal_grid (index_values mode env d) set ys same;
-      holds = held;
-      weight = own_weight mode env e 0 held refl;
-    })
+      holds = holds;
+      weight = own_weight mode env e 0 holds refl;
+    }

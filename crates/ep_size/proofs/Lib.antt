@@ -16,6 +16,7 @@ pub mod ListSteps
 pub mod LookSteps
 pub mod MatrixSteps
 pub mod Measurings
+pub mod MeterSteps
 pub mod NamedSteps
 pub mod NodeSteps
 pub mod PartedSteps
@@ -23,7 +24,6 @@ pub mod PowerParts
 pub mod QuantifiedSteps
 pub mod ReadForms
 pub mod ReadSteps
-pub mod Regrouping
 pub mod RemainingSteps
 pub mod RunCounts
 pub mod ScalarParts

@@ -1,7 +1,7 @@
 -- Nodes that hold a decision variable and are matrices.
 use Rattle.std.proofs.Common.{◌≡◌, ℕ, ◌+◌, ◌<◌, ◌≤◌, ℤ, true, List, [], ◌∷◌, ◌++◌, length, take, get_or, refl, sym, ap, subst, ◌∙◌, arith, Ok, Err}
 use Rattle.std.proofs.lemmas.List.{length-map, map-append, take_all, take_more}
-use Rattle.std.specs.Prelude.{map, Result, pos}
+use Rattle.std.specs.Prelude.{IfOk, map, Result, pos}
 use Rattle.std.specs.declared.alloc.Global.{Global}
 use Rattle.std.specs.declared.vec.Vec.{Vec}
 use Rattle.ep_base.specs.Runs.{counting}
@@ -24,7 +24,6 @@ use Rattle.ep_size.specs.declared.errors.SizeError.{SizeError}
 use Rattle.ep_size.specs.declared.errors.SizeError.TheVariants.{Memory}
 use Rattle.ep_size.specs.declared.extents.Extent.{Extent, Matrix, Number}
 use Rattle.ep_size.specs.declared.extents.Span.{Span}
-use Rattle.ep_size.specs.declared.totals.Totals.{Totals}
 
 -- parts as a list
 pub grids_from-map : (xs : List Extent) → grids_from xs ≡ as_parts (map grid_of xs)
@@ -40,25 +39,25 @@ listed_matrix is v = record {
   tells = λ mode env e h. h;
 }
 
-matrix_finished : (mode : Mode) (env : Env) (e : ExprTree) (g : defined.Extent) (t : Totals) (x : Extent) → IsMatrixNode mode env e g → TellsExtent x g
+matrix_finished : (mode : Mode) (env : Env) (e : ExprTree) (g : defined.Extent) (t : ℕ) (x : Extent) → IsMatrixNode mode env e g → TellsExtent x g
     → Finished mode env e t t x
 matrix_finished mode env e g t x h k = record {
   near = near_nothing mode (a_node env e) (h.plain ∙ ap number_reach h.value ∙ h.none);
   known = record { extent = h.value ∙ sym k.grid; value = k.tells mode env e h.holds };
-  added = record { size = refl; weight = let none = h.weight in omega (arith, none) };
+  added = let none = h.weight in omega (arith, none);
 }
 
-memory_finishes : (mode : Mode) (env : Env) (e : ExprTree) (t : Totals) (error : SizeError) → error ≡ Memory → Finishes mode env e t t (Err error)
+memory_finishes : (mode : Mode) (env : Env) (e : ExprTree) (t : ℕ) (error : SizeError) → error ≡ Memory → Finishes mode env e t t (Err error)
 memory_finishes mode env e t error h = subst (λ x. Finishes mode env e t t (Err x)) (sym h) tt
 
 -- a matrix that is made is what is known of a node
-pub lists_finish : (mode : Mode) (env : Env) (e : ExprTree) (g : defined.Extent) (t : Totals) (r : Result Extent SizeError) → IsMatrixNode mode env e g
+pub lists_finish : (mode : Mode) (env : Env) (e : ExprTree) (g : defined.Extent) (t : ℕ) (r : Result Extent SizeError) → IsMatrixNode mode env e g
     → ListsExtent r g → Finishes mode env e t t r
 lists_finish mode env e g t (Ok x) h made = matrix_finished mode env e g t x h made.0
 lists_finish mode env e g t (Err error) h made = memory_finishes mode env e t error made.1
 
 -- an error for want of memory
-pub memory_stops : (mode : Mode) (env : Env) (e : ExprTree) (t : Totals) (error : SizeError) → error ≡ Memory → Finishes mode env e t t (Err error)
+pub memory_stops : (mode : Mode) (env : Env) (e : ExprTree) (t : ℕ) (error : SizeError) → error ≡ Memory → Finishes mode env e t t (Err error)
 memory_stops = memory_finishes
 
 pub list_reach : (xs : List defined.Span) → number_reach (list_value xs) ≡ []
@@ -103,3 +102,9 @@ list_all xs i is parts past within own h =
     ap (λ l. matrix l (as_parts (map grid_of parts.items))) (own ∙ ap (counting (pos 1)) count)
     ∙ ap (λ l. matrix (counting (pos 1) (length (map plain_span xs))) (as_parts l)) (h ∙ ap (λ l. map single (map plain_span l)) (take_all i xs past)) in
     subst (TellsExtent (Matrix is parts)) grid (listed_matrix is parts)
+
+-- ---- answers of calls
+
+pub if_ok : {T : Type 0} (r : Result T SizeError) (P Q : T → Type 0) → IfOk r P → ((x : T) → P x → Q x) → IfOk r Q
+if_ok (Ok x) P Q h f = f x h
+if_ok (Err e) P Q h f = tt

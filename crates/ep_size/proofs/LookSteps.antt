@@ -19,7 +19,7 @@ use Rattle.ep_size.specs.Free.{are_free, are_free_domains, are_free_generators, 
 use Rattle.ep_size.specs.Standings.{both, standing_of, standing_of_all, standing_of_indices, standing_of_terms}
 use Rattle.ep_size.specs.declared.standing.Standing.{Standing}
 
-and_again : (a b c : Bool) → ((a && b) && c) ≡ (a && (b && c))
+pub and_again : (a b c : Bool) → ((a && b) && c) ≡ (a && (b && c))
 and_again true b c = refl
 and_again false b c = refl
 

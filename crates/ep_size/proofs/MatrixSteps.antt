@@ -16,26 +16,21 @@ use Rattle.ep_tree.specs.Reach.{Extent, decisions_in, extent, fixed_span, folded
 use Rattle.ep_tree.specs.Trees.{ExprTree, all_different, at_least, at_most, folded, gcc, in_set, lex, table}
 use Rattle.ep_tree.proofs.ViewLemmas.{value_tree-matrix, value_tree-number}
 use Rattle.ep_tree.specs.Values.{Grid, Grids, as_parts, filled, listed_values, map_grid, map_grids, matrix, no_values, rows_of, scalars_of, single, value_and}
-use Rattle.ep_tree.specs.Views.{expr_tree, kind_tree, value_tree, values_from}
-use Rattle.ep_tree.specs.declared.syntax.Expr.{Expr}
-use Rattle.ep_tree.specs.declared.syntax.Kind.{Kind}
+use Rattle.ep_tree.specs.Views.{value_tree, values_from}
 use Rattle.ep_tree.specs.declared.values.Value.{Value, Number as NumberValue, Matrix as ValueMatrix}
-use Rattle.ep_size.specs.Parts.{three_parts}
 use Rattle.ep_size.specs.Totals.{capped}
 use Rattle.ep_tree.specs.declared.syntax.FoldOp.{FoldOp}
 use Rattle.ep_tree.specs.declared.values.Mode.{Mode}
 use Rattle.ep_size.proofs.FormSteps.{measured_decided, number_node, one_number, own_weight, two_number}
-use Rattle.ep_size.specs.Extending.{Added}
 use Rattle.ep_size.specs.Extents as own
-use Rattle.ep_size.specs.Extents.{IsKnownExtent, TellsValue, fixed_grid, grid_of, grids_from}
-use Rattle.ep_size.specs.Finishing.{Finished, Finishes, IsNumberNode, is_far_node}
+use Rattle.ep_size.specs.Extents.{TellsValue, fixed_grid, grid_of, grids_from}
+use Rattle.ep_size.specs.Finishing.{Added, Finished, Finishes, IsNumberNode, is_far_node}
 use Rattle.ep_size.specs.Folds.{GivesFold, IsFoldNode, RefusesFold, fold_reaches, is_far_fold}
 use Rattle.ep_size.specs.declared.errors.SizeError.{SizeError}
 use Rattle.ep_size.specs.declared.errors.SizeError.TheVariants.{Limit, Memory}
 use Rattle.ep_size.specs.declared.extents.Extent as declared
 use Rattle.ep_size.specs.declared.extents.Extent.TheVariants.{Number}
 use Rattle.ep_size.specs.declared.extents.Span.{Span}
-use Rattle.ep_size.specs.declared.totals.Totals.{Totals}
 use Rattle.ep_size.specs.Widths.{Widens}
 use Rattle.ep_size.specs.declared.widths.Widths.{Widths}
 
@@ -48,7 +43,7 @@ unfolding farthest_reach
 fold_far mode env e op spans h =
     ap (λ is. int_lt MOST_NUMBER (farthest_of (map farthest_end is))) (append-nil (reaches_at mode (a_node env e)) ∙ h.reaches)
 
-pub fold_finished : (mode : Mode) (env : Env) (e : ExprTree) (op : FoldOp) (spans : List defined.Span) (a b : Totals) (s : Span) → IsFoldNode mode env e op spans
+pub fold_finished : (mode : Mode) (env : Env) (e : ExprTree) (op : FoldOp) (spans : List defined.Span) (a b : ℕ) (s : Span) → IsFoldNode mode env e op spans
     → GivesFold (Ok s) op spans → Added a b (folded_weight op spans) → Finished mode env e a b (Number s)
 unfolding grid_of TellsValue
 fold_finished mode env e op spans a b s h g added = record {
@@ -57,7 +52,7 @@ fold_finished mode env e op spans a b s h g added = record {
   added = subst (λ n. Added a b n) (sym h.weight) added;
 }
 
-pub fold_refused : (mode : Mode) (env : Env) (e : ExprTree) (op : FoldOp) (spans : List defined.Span) (a b : Totals) (error : SizeError)
+pub fold_refused : (mode : Mode) (env : Env) (e : ExprTree) (op : FoldOp) (spans : List defined.Span) (a b : ℕ) (error : SizeError)
     → IsFoldNode mode env e op spans → RefusesFold error op spans → Finishes mode env e a b (Err error)
 fold_refused mode env e op spans a b (Limit l) h g = (g.0, fold_far mode env e op spans h ∙ g.1)
 fold_refused mode env e op spans a b Memory h g = tt
@@ -87,87 +82,74 @@ folded_own mode env p op m holds =
     }
 
 -- a matrix folded into a number, by what is known of the matrix
-pub folded_node : (mode : Mode) (env : Env) (p : Place) (op : FoldOp) (tree m : ExprTree) (x : Extent) → tree ≡ folded p op m
-    → holds_decision (decisions_in env) tree ≡ true → extent mode env m ≡ x → IsFoldNode mode env tree op (scalars_of x)
-folded_node mode env p op tree m x is holds known =
-    subst (λ y. IsFoldNode mode env tree op (scalars_of y)) known
-    (subst (λ t. IsFoldNode mode env t op (scalars_of (extent mode env m))) (sym is)
-    (folded_own mode env p op m (ap (holds_decision (decisions_in env)) (sym is) ∙ holds)))
+pub folded_node : (mode : Mode) (env : Env) (p : Place) (op : FoldOp) (m : ExprTree) (x : Extent)
+    → holds_decision (decisions_in env) (folded p op m) ≡ true → extent mode env m ≡ x → IsFoldNode mode env (folded p op m) op (scalars_of x)
+folded_node mode env p op m x holds known = subst (λ y. IsFoldNode mode env (folded p op m) op (scalars_of y)) known (folded_own mode env p op m holds)
 
 -- ---- truth values
 
-pub all_different_number : (mode : Mode) (env : Env) (p : Place) (tree m : ExprTree) (x : Extent) → tree ≡ all_different p m
-    → holds_decision (decisions_in env) tree ≡ true → extent mode env m ≡ x
-    → IsNumberNode mode env tree (length (scalars_of x) * widths (scalars_of x)) truth_span
+pub all_different_number : (mode : Mode) (env : Env) (p : Place) (m : ExprTree) (x : Extent)
+    → holds_decision (decisions_in env) (all_different p m) ≡ true → extent mode env m ≡ x
+    → IsNumberNode mode env (all_different p m) (length (scalars_of x) * widths (scalars_of x)) truth_span
 unfolding reaches_at decided_weight
-all_different_number mode env p tree m x is holds known =
-    one_number mode env tree m x (all_different p) (λ y. length (scalars_of y) * widths (scalars_of y)) (λ _. truth_span) is holds known (λ f. refl)
-    (extent-all_different mode env p) (λ f. refl)
+all_different_number mode env p m x holds known =
+    one_number mode env m x (all_different p) (λ y. length (scalars_of y) * widths (scalars_of y)) (λ _. truth_span) holds known refl (extent-all_different mode env p m) refl
 
-pub lex_number : (mode : Mode) (env : Env) (p : Place) (op : LexOp) (tree e f : ExprTree) (x y : Extent) → tree ≡ lex p op e f
-    → holds_decision (decisions_in env) tree ≡ true → extent mode env e ≡ x → extent mode env f ≡ y
-    → IsNumberNode mode env tree (widths (scalars_of x) + widths (scalars_of y)) truth_span
+pub lex_number : (mode : Mode) (env : Env) (p : Place) (op : LexOp) (e f : ExprTree) (x y : Extent)
+    → holds_decision (decisions_in env) (lex p op e f) ≡ true → extent mode env e ≡ x → extent mode env f ≡ y
+    → IsNumberNode mode env (lex p op e f) (widths (scalars_of x) + widths (scalars_of y)) truth_span
 unfolding reaches_at decided_weight
-lex_number mode env p op tree e f x y is holds known told =
-    two_number mode env tree e f x y (lex p op) (λ a b. widths (scalars_of a) + widths (scalars_of b)) (λ a b. truth_span) is holds known told refl
-    (extent-lex mode env p op e f) refl
+lex_number mode env p op e f x y holds known told =
+    two_number mode env e f x y (lex p op) (λ a b. widths (scalars_of a) + widths (scalars_of b)) (λ a b. truth_span) holds known told refl (extent-lex mode env p op e f) refl
 
-pub in_set_number : (mode : Mode) (env : Env) (p : Place) (tree e m : ExprTree) (x y : Extent) → tree ≡ in_set p e m
-    → holds_decision (decisions_in env) tree ≡ true → extent mode env e ≡ x → extent mode env m ≡ y
-    → IsNumberNode mode env tree (length (scalars_of y) * width (span_of x).reach + widths (scalars_of y)) truth_span
+pub in_set_number : (mode : Mode) (env : Env) (p : Place) (e m : ExprTree) (x y : Extent)
+    → holds_decision (decisions_in env) (in_set p e m) ≡ true → extent mode env e ≡ x → extent mode env m ≡ y
+    → IsNumberNode mode env (in_set p e m) (length (scalars_of y) * width (span_of x).reach + widths (scalars_of y)) truth_span
 unfolding reaches_at decided_weight
-in_set_number mode env p tree e m x y is holds known told =
-    two_number mode env tree e m x y (in_set p) (λ a b. length (scalars_of b) * width (span_of a).reach + widths (scalars_of b)) (λ a b. truth_span) is holds
+in_set_number mode env p e m x y holds known told =
+    two_number mode env e m x y (in_set p) (λ a b. length (scalars_of b) * width (span_of a).reach + widths (scalars_of b)) (λ a b. truth_span) holds
     known told refl (extent-in_set mode env p e m) refl
 
-pub table_number : (mode : Mode) (env : Env) (p : Place) (tree row rows : ExprTree) (x y : Extent) → tree ≡ table p row rows
-    → holds_decision (decisions_in env) tree ≡ true → extent mode env row ≡ x → extent mode env rows ≡ y
-    → IsNumberNode mode env tree (length (rows_of y) * length (scalars_of x) + widths (scalars_of x)) truth_span
+pub table_number : (mode : Mode) (env : Env) (p : Place) (row rows : ExprTree) (x y : Extent)
+    → holds_decision (decisions_in env) (table p row rows) ≡ true → extent mode env row ≡ x → extent mode env rows ≡ y
+    → IsNumberNode mode env (table p row rows) (length (rows_of y) * length (scalars_of x) + widths (scalars_of x)) truth_span
 unfolding reaches_at decided_weight
-table_number mode env p tree row rows x y is holds known told =
-    two_number mode env tree row rows x y (table p) (λ a b. length (rows_of b) * length (scalars_of a) + widths (scalars_of a)) (λ a b. truth_span) is holds
+table_number mode env p row rows x y holds known told =
+    two_number mode env row rows x y (table p) (λ a b. length (rows_of b) * length (scalars_of a) + widths (scalars_of a)) (λ a b. truth_span) holds
     known told refl (extent-table mode env p row rows) refl
 
 -- a node with three parts that counts
-three_number : (mode : Mode) (env : Env) (tree e f g : ExprTree) (x y z : Extent) (shape : ExprTree → ExprTree → ExprTree → ExprTree)
-    (w : Extent → Extent → Extent → ℕ) → tree ≡ shape e f g → holds_decision (decisions_in env) tree ≡ true → extent mode env e ≡ x
-    → extent mode env f ≡ y → extent mode env g ≡ z
-    → IsNumberNode mode env (shape e f g) (w (extent mode env e) (extent mode env f) (extent mode env g)) truth_span
-    → IsNumberNode mode env tree (w x y z) truth_span
-three_number mode env tree e f g x y z shape w is holds known told last own =
+three_number : (mode : Mode) (env : Env) (e f g : ExprTree) (x y z : Extent) (tree : ExprTree) (w : Extent → Extent → Extent → ℕ)
+    → extent mode env e ≡ x → extent mode env f ≡ y → extent mode env g ≡ z
+    → IsNumberNode mode env tree (w (extent mode env e) (extent mode env f) (extent mode env g)) truth_span → IsNumberNode mode env tree (w x y z) truth_span
+three_number mode env e f g x y z tree w known told last own =
     subst (λ a. IsNumberNode mode env tree (w a y z) truth_span) known
     (subst (λ b. IsNumberNode mode env tree (w (extent mode env e) b z) truth_span) told
-    (subst (λ d. IsNumberNode mode env tree (w (extent mode env e) (extent mode env f) d) truth_span) last
-    (subst (λ t. IsNumberNode mode env t (w (extent mode env e) (extent mode env f) (extent mode env g)) truth_span) (sym is) own)))
+    (subst (λ d. IsNumberNode mode env tree (w (extent mode env e) (extent mode env f) d) truth_span) last own))
 
-pub gcc_number : (mode : Mode) (env : Env) (p : Place) (tree m values counts : ExprTree) (x y z : Extent) → tree ≡ gcc p m values counts
-    → holds_decision (decisions_in env) tree ≡ true → extent mode env m ≡ x → extent mode env values ≡ y → extent mode env counts ≡ z
-    → IsNumberNode mode env tree (counting_weight (scalars_of x) (scalars_of y) (scalars_of z)) truth_span
+pub gcc_number : (mode : Mode) (env : Env) (p : Place) (m values counts : ExprTree) (x y z : Extent)
+    → holds_decision (decisions_in env) (gcc p m values counts) ≡ true → extent mode env m ≡ x → extent mode env values ≡ y → extent mode env counts ≡ z
+    → IsNumberNode mode env (gcc p m values counts) (counting_weight (scalars_of x) (scalars_of y) (scalars_of z)) truth_span
 unfolding reaches_at decided_weight
-gcc_number mode env p tree m values counts x y z is holds known told last =
-    three_number mode env tree m values counts x y z (gcc p) (λ a b d. counting_weight (scalars_of a) (scalars_of b) (scalars_of d)) is holds known told last
-    (number_node mode env (gcc p m values counts) _ truth_span (ap (holds_decision (decisions_in env)) (sym is) ∙ holds) refl
-    (extent-gcc mode env p m values counts) refl)
+gcc_number mode env p m values counts x y z holds known told last =
+    three_number mode env m values counts x y z (gcc p m values counts) (λ a b d. counting_weight (scalars_of a) (scalars_of b) (scalars_of d)) known told last
+    (number_node mode env (gcc p m values counts) _ truth_span holds refl (extent-gcc mode env p m values counts) refl)
 
-pub at_least_number : (mode : Mode) (env : Env) (p : Place) (tree m counts values : ExprTree) (x y z : Extent) → tree ≡ at_least p m counts values
-    → holds_decision (decisions_in env) tree ≡ true → extent mode env m ≡ x → extent mode env counts ≡ y → extent mode env values ≡ z
-    → IsNumberNode mode env tree (counting_weight (scalars_of x) (scalars_of z) (scalars_of y)) truth_span
+pub at_least_number : (mode : Mode) (env : Env) (p : Place) (m counts values : ExprTree) (x y z : Extent)
+    → holds_decision (decisions_in env) (at_least p m counts values) ≡ true → extent mode env m ≡ x → extent mode env counts ≡ y → extent mode env values ≡ z
+    → IsNumberNode mode env (at_least p m counts values) (counting_weight (scalars_of x) (scalars_of z) (scalars_of y)) truth_span
 unfolding reaches_at decided_weight
-at_least_number mode env p tree m counts values x y z is holds known told last =
-    three_number mode env tree m counts values x y z (at_least p) (λ a b d. counting_weight (scalars_of a) (scalars_of d) (scalars_of b)) is holds known told
-    last
-    (number_node mode env (at_least p m counts values) _ truth_span (ap (holds_decision (decisions_in env)) (sym is) ∙ holds) refl
-    (extent-at_least mode env p m counts values) refl)
+at_least_number mode env p m counts values x y z holds known told last =
+    three_number mode env m counts values x y z (at_least p m counts values) (λ a b d. counting_weight (scalars_of a) (scalars_of d) (scalars_of b)) known told last
+    (number_node mode env (at_least p m counts values) _ truth_span holds refl (extent-at_least mode env p m counts values) refl)
 
-pub at_most_number : (mode : Mode) (env : Env) (p : Place) (tree m counts values : ExprTree) (x y z : Extent) → tree ≡ at_most p m counts values
-    → holds_decision (decisions_in env) tree ≡ true → extent mode env m ≡ x → extent mode env counts ≡ y → extent mode env values ≡ z
-    → IsNumberNode mode env tree (counting_weight (scalars_of x) (scalars_of z) (scalars_of y)) truth_span
+pub at_most_number : (mode : Mode) (env : Env) (p : Place) (m counts values : ExprTree) (x y z : Extent)
+    → holds_decision (decisions_in env) (at_most p m counts values) ≡ true → extent mode env m ≡ x → extent mode env counts ≡ y → extent mode env values ≡ z
+    → IsNumberNode mode env (at_most p m counts values) (counting_weight (scalars_of x) (scalars_of z) (scalars_of y)) truth_span
 unfolding reaches_at decided_weight
-at_most_number mode env p tree m counts values x y z is holds known told last =
-    three_number mode env tree m counts values x y z (at_most p) (λ a b d. counting_weight (scalars_of a) (scalars_of d) (scalars_of b)) is holds known told
-    last
-    (number_node mode env (at_most p m counts values) _ truth_span (ap (holds_decision (decisions_in env)) (sym is) ∙ holds) refl
-    (extent-at_most mode env p m counts values) refl)
+at_most_number mode env p m counts values x y z holds known told last =
+    three_number mode env m counts values x y z (at_most p m counts values) (λ a b d. counting_weight (scalars_of a) (scalars_of d) (scalars_of b)) known told last
+    (number_node mode env (at_most p m counts values) _ truth_span holds refl (extent-at_most mode env p m counts values) refl)
 
 -- ---- scalars as a list of what is known
 
@@ -175,30 +157,6 @@ at_most_number mode env p tree m counts values x y z is holds known told last =
 pub counted_of : (w : Widths) (xs items : List Span) (zs : List defined.Span) → Widens w (map own.plain_span xs) → xs ≡ items → map own.plain_span items ≡ zs
     → Widens w zs
 counted_of w xs items zs h same scalars = subst (λ ys. Widens w ys) (ap (map own.plain_span) same ∙ scalars) h
-
--- ---- three parts
-
-abbrev first_of : ExprTree → Option (ExprTree × ExprTree × ExprTree) → ExprTree
-first_of e None = e
-first_of e (Some all) = all.0
-
-abbrev second_of : ExprTree → Option (ExprTree × ExprTree × ExprTree) → ExprTree
-second_of e None = e
-second_of e (Some all) = all.1
-
-abbrev third_of : ExprTree → Option (ExprTree × ExprTree × ExprTree) → ExprTree
-third_of e None = e
-third_of e (Some all) = all.2
-
--- the tree of a form by its three parts, which are told in two ways
-pub three_are : (shape : Place → ExprTree → ExprTree → ExprTree → ExprTree) (k : Kind) (a b d : Expr) (p : Place) (e f g : ExprTree)
-    → kind_tree p k ≡ shape p (expr_tree a) (expr_tree b) (expr_tree d)
-    → ((x y z : ExprTree) → three_parts (shape p x y z) ≡ Some (x, y, z)) → three_parts (kind_tree p k) ≡ Some (e, f, g) → kind_tree p k ≡ shape p e f g
-three_are shape k a b d p e f g is parts told =
-    let all : ◌≡◌ {A = Option (ExprTree × ExprTree × ExprTree)} (Some (expr_tree a, expr_tree b, expr_tree d)) (Some (e, f, g)) =
-    sym (parts (expr_tree a) (expr_tree b) (expr_tree d)) ∙ ap three_parts (sym is) ∙ told in
-    is ∙ ap (λ x. shape p x (expr_tree b) (expr_tree d)) (ap (first_of e) all) ∙ ap (λ y. shape p e y (expr_tree d)) (ap (second_of f) all)
-    ∙ ap (shape p e f) (ap (third_of g) all)
 
 -- ---- rows
 

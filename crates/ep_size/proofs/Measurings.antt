@@ -1,15 +1,13 @@
--- How measures and causes compose.
-use Rattle.std.proofs.Common.{◌≡◌, ℕ, ◌+◌, ◌<◌, ◌≤◌, Bool, true, false, List, [], ◌∷◌, ◌++◌, length, refl, sym, ap, ◌∙◌, inl, inr, arith}
+-- How measures compose, and which limits are passed.
+use Rattle.std.proofs.Common.{◌≡◌, ℕ, ◌+◌, ◌<◌, ◌≤◌, Bool, true, false, List, [], ◌∷◌, ◌++◌, length, refl, sym, ap, subst, ◌∙◌, inl, inr, arith}
 use Rattle.std.specs.Prelude.{Contains, flat_map, fold, map, nat_lt, int_lt, ◌||◌, if◌then◌else◌, ℤ, pos}
 use Rattle.std.specs.Int.{int_max}
 use Rattle.std.specs.List.{list_any}
 use Rattle.std.proofs.lemmas.Int.{ints}
-use Rattle.std.proofs.lemmas.List.{length-append, map-append}
-use Rattle.std.proofs.lemmas.List.Sums.{sum_by-append}
+use Rattle.std.proofs.lemmas.List.{map-append}
+use Rattle.std.proofs.lemmas.List.Sums.{sum_by-append, sum_by-cons}
 use Rattle.std.proofs.lemmas.Grind.{flat_map-append}
-use Rattle.std.proofs.lemmas.List.Elements.{Contains-append_left, Contains-append_right, Contains-append_cases}
 use Rattle.std.proofs.Math.Bool.{or_assoc}
-use Rattle.std.proofs.lemmas.Bool.{or_from, or_left, or_right}
 use Rattle.ep_base.specs.Intervals.{Interval, farthest_end}
 use Rattle.ep_base.specs.Numbers.{absolute_of}
 use Rattle.ep_base.specs.Reads.{MOST_NUMBER}
@@ -19,11 +17,8 @@ use Rattle.ep_tree.specs.Limits.{MOST_SIZE}
 use Rattle.ep_tree.specs.Measures.{Met, farthest_of, farthest_reach, reaches_at, weight_at, weight_of}
 use Rattle.ep_tree.specs.Solutions.{limits_passed}
 use Rattle.ep_tree.specs.declared.values.Mode.{Mode}
-use Rattle.ep_size.specs.Causes.{IsCause}
-use Rattle.ep_size.specs.Totals.{Measured}
-use Rattle.ep_size.specs.declared.errors.SizeError.{SizeError}
-use Rattle.ep_size.specs.declared.errors.SizeError.TheVariants.{Limit, Memory}
-use Rattle.ep_size.specs.declared.totals.Totals.{Totals}
+use Rattle.ep_eval.specs.Meters.{IsPassed}
+use Rattle.ep_size.specs.Meters.{is_far}
 
 -- ---- reach
 
@@ -53,10 +48,6 @@ any_append : {A : Type 0} (f : A → Bool) (xs ys : List A) → list_any f (xs +
 any_append f [] ys = refl
 any_append f (x ∷ xs) ys = ap (λ b. f x || b) (any_append f xs ys) ∙ sym (or_assoc (f x) (list_any f xs) (list_any f ys))
 
--- whether some nodes pass the limit of reach
-abbrev pub is_far : Mode → List Met → Bool
-is_far mode ms = int_lt MOST_NUMBER (farthest_reach mode ms)
-
 -- nodes pass the limit where some of them do
 pub far_either : (mode : Mode) (ms ns : List Met) → is_far mode (ms ++ ns) ≡ (is_far mode ms || is_far mode ns)
 unfolding farthest_reach
@@ -72,68 +63,15 @@ far_either mode ms ns =
 
 -- ---- measures
 
-weight-append : (mode : Mode) (ms ns : List Met) → weight_of mode (ms ++ ns) ≡ weight_of mode ms + weight_of mode ns
+pub weight-append : (mode : Mode) (ms ns : List Met) → weight_of mode (ms ++ ns) ≡ weight_of mode ms + weight_of mode ns
 unfolding weight_of
 weight-append mode ms ns = sum_by-append (weight_at mode) ms ns
 
--- no nodes
-pub measured_none : (mode : Mode) (t : Totals) → Measured mode t t []
-unfolding weight_of farthest_reach farthest_of
-measured_none mode t =
-    let none : weight_of mode [] ≡ 0 = refl in record { size = omega arith; small = λ h. h; near = refl; weight = omega (arith, none) }
+pub weight-cons : (mode : Mode) (m : Met) (ms : List Met) → weight_of mode (m ∷ ms) ≡ weight_at mode m + weight_of mode ms
+unfolding weight_of
+weight-cons mode m ms = sum_by-cons (weight_at mode) m ms
 
--- nodes behind others
-pub measured_append : (mode : Mode) (a b c : Totals) (ms ns : List Met) → Measured mode a b ms → Measured mode b c ns → Measured mode a c (ms ++ ns)
-measured_append mode a b c ms ns h k = record {
-  size = omega (arith, h.size, k.size, length-append ms ns);
-  small = λ s. k.small (h.small s);
-  near = far_either mode ms ns ∙ or_from _ _ h.near k.near;
-  weight = omega (arith, h.weight, k.weight, weight-append mode ms ns);
-}
-
--- ---- causes
-
--- more limits are passed where each that was passed still is
-more_limits : (s r : Refusal) (b c b' c' : Bool) (l : Refusal) → (b ≡ true → b' ≡ true) → (c ≡ true → c' ≡ true)
-    → Contains ((if b then s ∷ [] else []) ++ (if c then r ∷ [] else [])) l
-    → Contains ((if b' then s ∷ [] else []) ++ (if c' then r ∷ [] else [])) l
-more_limits s r b c b' c' l h k m =
-    elim (Contains-append_cases (if b then s ∷ [] else []) (if c then r ∷ [] else []) l m)
-    as (λ _. Contains ((if b' then s ∷ [] else []) ++ (if c' then r ∷ [] else [])) l) [
-      | inl w ↦ Contains-append_left (if b' then s ∷ [] else []) (if c' then r ∷ [] else []) l (kept b b' s l h w)
-      | inr w ↦ Contains-append_right (if b' then s ∷ [] else []) (if c' then r ∷ [] else []) l (kept c c' r l k w)
-    ]
-  where
-    kept : (x y : Bool) (one l : Refusal) → (x ≡ true → y ≡ true) → Contains (if x then one ∷ [] else []) l → Contains (if y then one ∷ [] else []) l
-    kept true true one l f w = w
-    kept true false one l f w = absurd (let e = f refl in cc)
-    kept false y one l f w = absurd (omega (arith, w.1))
-
-grows : (m a b : ℕ) → a ≤ b → nat_lt m a ≡ true → nat_lt m b ≡ true
-grows m a b h k = grind arith
-
--- what refuses some nodes refuses more of them
-pub cause_more : (mode : Mode) (a b : ℕ) (ms ns : List Met) (error : SizeError)
-    → (a + length ms ≤ b + length ns) → (is_far mode ms ≡ true → is_far mode ns ≡ true)
-    → IsCause (limits_passed mode a ms) error → IsCause (limits_passed mode b ns) error
-unfolding limits_passed
-cause_more mode a b ms ns Memory h k c = tt
-cause_more mode a b ms ns (Limit l) h k c =
-    more_limits (over_limit LimitName.Size) (over_limit LimitName.Reach) (nat_lt MOST_SIZE (a + length ms)) _ (nat_lt MOST_SIZE (b + length ns)) _ (over_limit l)
-    (grows MOST_SIZE (a + length ms) (b + length ns) h) k c
-
--- what refuses the first of some nodes refuses them all
-pub cause_first : (mode : Mode) (a : ℕ) (ms ns : List Met) (error : SizeError) → IsCause (limits_passed mode a ms) error → IsCause (limits_passed mode a (ms ++ ns)) error
-cause_first mode a ms ns error c =
-    cause_more mode a a ms (ms ++ ns) error (omega (arith, length-append ms ns))
-    (λ h. far_either mode ms ns ∙ or_left _ _ h) c
-
--- what refuses the later of some nodes refuses them all
-pub cause_then : (mode : Mode) (a b : Totals) (ms ns : List Met) (error : SizeError) → Measured mode a b ms
-    → IsCause (limits_passed mode b.size ns) error → IsCause (limits_passed mode a.size (ms ++ ns)) error
-cause_then mode a b ms ns error m c =
-    cause_more mode b.size a.size ns (ms ++ ns) error (omega (arith, m.size, length-append ms ns))
-    (λ h. far_either mode ms ns ∙ or_right _ _ h) c
+-- ---- limits
 
 size_limit : (s r : Refusal) (b c : Bool) → b ≡ true → Contains ((if b then s ∷ [] else []) ++ (if c then r ∷ [] else [])) s
 size_limit s r true c h = (0, omega arith, refl)
@@ -149,23 +87,24 @@ pub size_refuses : (mode : Mode) (a : ℕ) (ms : List Met) → MOST_SIZE < a + l
 unfolding limits_passed
 size_refuses mode a ms h = size_limit (over_limit LimitName.Size) (over_limit LimitName.Reach) (nat_lt MOST_SIZE (a + length ms)) _ (grind arith)
 
--- nodes that reach too far refuse
-pub reach_refuses : (mode : Mode) (a : ℕ) (ms : List Met) → is_far mode ms ≡ true → Contains (limits_passed mode a ms) (over_limit LimitName.Reach)
+-- the limits that some nodes pass may be named
+pub passed_limits : (mode : Mode) (n : ℕ) (ms : List Met) (l : LimitName) → IsPassed (is_far mode) n ms l → Contains (limits_passed mode n ms) (over_limit l)
 unfolding limits_passed
-reach_refuses mode a ms h = reach_limit (over_limit LimitName.Size) (over_limit LimitName.Reach) (nat_lt MOST_SIZE (a + length ms)) _ h
+passed_limits mode n ms l (inl size) =
+    subst (λ k. Contains (limits_passed mode n ms) (over_limit k)) (sym size.0) (size_refuses mode n ms size.1)
+passed_limits mode n ms l (inr reach) =
+    subst (λ k. Contains (limits_passed mode n ms) (over_limit k)) (sym reach.0)
+    (reach_limit (over_limit LimitName.Size) (over_limit LimitName.Reach) (nat_lt MOST_SIZE (n + length ms)) _ reach.1)
 
--- no limit is passed where the nodes are measured
-pub nothing_passed : (mode : Mode) (a b : Totals) (ms : List Met) → a.size ≤ MOST_SIZE → Measured mode a b ms → limits_passed mode a.size ms ≡ []
+-- no limit is passed where few nodes are near
+pub nothing_passed : (mode : Mode) (n : ℕ) (ms : List Met) → n + length ms ≤ MOST_SIZE → is_far mode ms ≡ false → limits_passed mode n ms ≡ []
 unfolding limits_passed
-nothing_passed mode a b ms s h = none (over_limit LimitName.Size) (over_limit LimitName.Reach) (nat_lt MOST_SIZE (a.size + length ms)) _ (small MOST_SIZE a.size (length ms) b.size h.size (h.small s)) h.near
+nothing_passed mode n ms small near = none (over_limit LimitName.Size) (over_limit LimitName.Reach) (nat_lt MOST_SIZE (n + length ms)) _ (grind (arith, small)) near
   where
     none : (s r : Refusal) (c d : Bool) → c ≡ false → d ≡ false → ((if c then s ∷ [] else []) ++ (if d then r ∷ [] else [])) ≡ []
     none s r false false p q = refl
     none s r true d p q = absurd cc
     none s r false true p q = absurd cc
-
-    small : (m x y z : ℕ) → z ≡ x + y → z ≤ m → nat_lt m (x + y) ≡ false
-    small m x y z p q = grind arith
 
 -- ---- a node alone
 

@@ -1,5 +1,5 @@
 -- A name that stands for a decision variable.
-use Rattle.std.proofs.Common.{◌≡◌, [], ◌∷◌, List, ℤ, true, false, refl, sym, ap, ◌∙◌, Some, Err, arith}
+use Rattle.std.proofs.Common.{◌≡◌, ℕ, [], ◌∷◌, List, ℤ, true, false, refl, sym, ap, ◌∙◌, Some, Err, arith}
 use Rattle.ep_base.specs.Intervals.{Interval, farthest_end}
 use Rattle.ep_base.specs.Reads.{is_too_far}
 use Rattle.ep_base.specs.declared.names.Name.{Name}
@@ -22,7 +22,6 @@ use Rattle.ep_size.specs.declared.errors.SizeError.{SizeError}
 use Rattle.ep_size.specs.declared.extents.Extent.{Extent}
 use Rattle.ep_size.specs.declared.extents.Extent.TheVariants.{Number}
 use Rattle.ep_size.specs.declared.extents.Span.{Span}
-use Rattle.ep_size.specs.declared.totals.Totals.{Totals}
 
 pub named_holds : (env : Env) (name : Name) (p : Place) (s : Scalar) (is : List (List ℤ)) (values : List ℤ) → env name ≡ Some (has_cells s is values)
     → holds_decision (decisions_in env) (named p name) ≡ true
@@ -41,7 +40,7 @@ unfolding decided_weight
 named_weight mode env name p h = own_weight mode env (named p name) 0 h refl
 
 -- a matrix of cells
-pub cells_finished : (mode : Mode) (env : Env) (name : Name) (p : Place) (t : Totals) (s : Scalar) (i : List ℤ) (is : List (List ℤ)) (values : List ℤ) (x : Extent) (own : Span)
+pub cells_finished : (mode : Mode) (env : Env) (name : Name) (p : Place) (t : ℕ) (s : Scalar) (i : List ℤ) (is : List (List ℤ)) (values : List ℤ) (x : Extent) (own : Span)
     → env name ≡ Some (has_cells s (i ∷ is) values) → plain_span own ≡ cell_span s values → grid_of x ≡ filled (plain_span own) (i ∷ is)
     → (holds_decision (decisions_in env) (named p name) ≡ true → TellsValue mode env (named p name) x)
     → Finished mode env (named p name) t t x
@@ -54,7 +53,7 @@ cells_finished mode env name p t s i is values x own h same grid tells =
         extent = named_is mode env name p s (i ∷ is) values h ∙ ap (λ c. filled c (i ∷ is)) (sym same) ∙ sym grid;
         value = tells held;
       };
-      added = record { size = refl; weight = let none = named_weight mode env name p held in omega (arith, none) };
+      added = let none = named_weight mode env name p held in omega (arith, none);
     }
 
 -- a cell alone
@@ -65,14 +64,14 @@ cell_number mode env name p s values h =
     let held = named_holds env name p s [] values h in
     record { plain = refl; value = named_is mode env name p s [] values h; holds = held; weight = named_weight mode env name p held }
 
-pub cell_finished : (mode : Mode) (env : Env) (name : Name) (p : Place) (t : Totals) (s : Scalar) (values : List ℤ) (own : Span) (i : Interval)
+pub cell_finished : (mode : Mode) (env : Env) (name : Name) (p : Place) (t : ℕ) (s : Scalar) (values : List ℤ) (own : Span) (i : Interval)
     → env name ≡ Some (has_cells s [] values) → plain_span own ≡ cell_span s values → i ≡ (plain_span own).reach → is_too_far (farthest_end i) ≡ false
     → Finished mode env (named p name) t t (Number own)
 cell_finished mode env name p t s values own i h same reach near =
     number_finished mode env (named p name) 0 (cell_span s values) t t own (cell_number mode env name p s values h) same
-    (ap (λ j. is_too_far (farthest_end j)) (sym (reach ∙ ap (λ c. c.reach) same)) ∙ near) (record { size = refl; weight = omega arith })
+    (ap (λ j. is_too_far (farthest_end j)) (sym (reach ∙ ap (λ c. c.reach) same)) ∙ near) (omega arith)
 
-pub cell_refused : (mode : Mode) (env : Env) (name : Name) (p : Place) (t : Totals) (s : Scalar) (values : List ℤ) (own : Span) (i : Interval) (error : SizeError)
+pub cell_refused : (mode : Mode) (env : Env) (name : Name) (p : Place) (t : ℕ) (s : Scalar) (values : List ℤ) (own : Span) (i : Interval) (error : SizeError)
     → env name ≡ Some (has_cells s [] values) → plain_span own ≡ cell_span s values → i ≡ (plain_span own).reach → Keeps i (Err error)
     → Finishes mode env (named p name) t t (Err error)
 cell_refused mode env name p t s values own i error h same reach keeps =

@@ -1,5 +1,5 @@
 -- Slices of cells whose index domains don't stand one after another, part by part.
-use Rattle.std.proofs.Common.{◌≡◌, true, false, ℤ, List, [], ◌∷◌, ◌++◌, map, refl, sym, ap, subst, ◌∙◌, append-nil, Option, Some, None}
+use Rattle.std.proofs.Common.{◌≡◌, ℕ, true, false, ℤ, List, [], ◌∷◌, ◌++◌, map, refl, sym, ap, subst, ◌∙◌, append-nil, Option, Some, None}
 use Rattle.std.specs.Prelude.{IfErr, IfOk, Err, Ok, Result, if◌then◌else◌, option_and_then, option_map, unwrap_or}
 use Rattle.std.specs.List.{list_all, list_any}
 use Rattle.std.proofs.lemmas.List.{map-append}
@@ -30,7 +30,6 @@ use Rattle.ep_size.specs.Slices.{IsPart, LeavesDomains, PartOf, is_told, names_o
 use Rattle.ep_size.specs.declared.errors.SizeError.{SizeError}
 use Rattle.ep_size.specs.declared.errors.SizeError.TheVariants.{Memory}
 use Rattle.ep_size.specs.declared.extents.Extent.{Extent, Matrix}
-use Rattle.ep_size.specs.declared.totals.Totals.{Totals}
 use Rattle.ep_size.specs.declared.extents.Extent.TheVariants.{Cells}
 use Rattle.ep_size.specs.declared.extents.Span.{Span as OneSpan}
 use Rattle.ep_size.specs.declared.reading.Indexed.{Indexed}
@@ -205,7 +204,7 @@ each_begins rest inner d s done left parts same none empty = record {
       ap (λ l. all_defined (map (λ i. read_value js (filled (known_span s) inner)) l)) none ∙ ap (λ l. Some (map grid_of l)) (sym empty);
 }
 
-append_again : {A : Type 0} (xs : List A) (x : A) (ys : List A) → xs ++ x ∷ ys ≡ (xs ++ x ∷ []) ++ ys
+pub append_again : {A : Type 0} (xs : List A) (x : A) (ys : List A) → xs ++ x ∷ ys ≡ (xs ++ x ∷ []) ++ ys
 append_again [] x ys = refl
 append_again (y ∷ xs) x ys = ap (λ zs. y ∷ zs) (append_again xs x ys)
 
@@ -313,7 +312,7 @@ sliced_node mode env p m is ms t x g holds told typed matrix_typed plain known s
     }
 
 -- a slice that is made is what is known of the read
-pub apart_finishes : (mode : Mode) (env : Env) (p : Place) (m : ExprTree) (is : Indices) (ms : List MeasuredIndex) (t : ValueType) (x : ExtentTree) (totals : Totals) (r : Result Extent SizeError)
+pub apart_finishes : (mode : Mode) (env : Env) (p : Place) (m : ExprTree) (is : Indices) (ms : List MeasuredIndex) (t : ValueType) (x : ExtentTree) (totals : ℕ) (r : Result Extent SizeError)
     → holds_decision (decisions_in env) (read p m is) ≡ true → ms ≡ measured_list mode env is → t ≡ type_in env (read p m is) → is_matrix t ≡ true
     → list_any is_decided_index ms ≡ false → extent mode env m ≡ x
     → IfOk r (λ y. TellsExtent y (slice_extent ms x)) → IfOk r (λ y. number_reach (grid_of y) ≡ []) → IfErr r (λ e. e ≡ Memory)

@@ -1,23 +1,22 @@
 -- The terms of a chain, one after another.
-use Rattle.std.proofs.Common.{◌≡◌, ℕ, suc, ◌+◌, ◌<◌, ◌^◌, Bool, true, List, [], ◌∷◌, ◌++◌, length, take, drop, get_or, refl, sym, ap, subst, ◌∙◌, arith}
-use Rattle.std.proofs.lemmas.List.{append-nil, append_assoc, length-take, take-append-drop, take_more}
+use Rattle.std.proofs.Common.{◌≡◌, ℕ, suc, ◌+◌, ◌<◌, ◌≤◌, ◌^◌, Bool, true, List, [], ◌∷◌, ◌++◌, length, take, drop, get_or, refl, sym, ap, subst, ◌∙◌, arith}
+use Rattle.std.proofs.lemmas.List.{drop_all, drop_more, length-take, take_all, take_more}
 use Rattle.ep_base.specs.declared.places.Place.{Place}
 use Rattle.ep_tree.proofs.ReachEquations.{extent-chain}
 use Rattle.ep_tree.specs.Environments.{Env}
 use Rattle.ep_tree.specs.Measures.{Met, decided_weight, met, met_terms, reaches_at, sum_weight}
 use Rattle.ep_tree.specs.Reach.{Span, decisions_in, extent, holds_decision, signed_span, span_of, sum_span, term_spans}
-use Rattle.ep_tree.specs.Solutions.{limits_passed}
-use Rattle.ep_tree.specs.Trees.{ExprTree, chain}
+use Rattle.ep_tree.specs.Trees.{chain}
 use Rattle.ep_tree.specs.Views.{expr_tree, terms_of}
 use Rattle.ep_tree.specs.declared.syntax.Expr.{Expr}
 use Rattle.ep_tree.specs.declared.values.Mode.{Mode}
 use Rattle.ep_size.proofs.FormSteps.{number_node}
-use Rattle.ep_size.proofs.Measurings.{cause_first, cause_then, measured_append, measured_none}
-use Rattle.ep_size.specs.Causes.{IsCause}
+use Rattle.ep_size.proofs.MeterSteps.{going_begins, going_ends, going_more}
+use Rattle.ep_size.specs.Extents.{IsKnownExtent, grid_of}
 use Rattle.ep_size.specs.Finishing.{IsNumberNode}
+use Rattle.ep_size.specs.Meters.{Going, Told}
 use Rattle.ep_size.specs.Sums.{Sums}
-use Rattle.ep_size.specs.Totals.{Measured}
-use Rattle.ep_size.specs.declared.errors.SizeError.{SizeError}
+use Rattle.ep_size.specs.declared.extents.Extent.{Extent}
 use Rattle.ep_size.specs.declared.sums.Summed.{Summed}
 use Rattle.ep_size.specs.declared.totals.Totals.{Totals}
 
@@ -29,42 +28,9 @@ met_by mode env xs = met_terms mode env (terms_of xs)
 abbrev pub spans_of : Mode → Env → List (Bool × Expr) → List Span
 spans_of mode env xs = term_spans mode env (terms_of xs)
 
-met_append : (mode : Mode) (env : Env) (xs ys : List (Bool × Expr)) → met_by mode env (xs ++ ys) ≡ met_by mode env xs ++ met_by mode env ys
+met_first : (mode : Mode) (env : Env) (x : Bool × Expr) (xs : List (Bool × Expr)) → met_by mode env (x ∷ xs) ≡ met mode env (expr_tree x.1) ++ met_by mode env xs
 unfolding met_terms terms_of
-met_append mode env [] ys = refl
-met_append mode env (x ∷ xs) ys =
-    ap (λ ms. met mode env (expr_tree x.1) ++ ms) (met_append mode env xs ys) ∙ sym (append_assoc (met mode env (expr_tree x.1)) (met_by mode env xs) (met_by mode env ys))
-
-met_alone : (mode : Mode) (env : Env) (x : Bool × Expr) → met_by mode env (x ∷ []) ≡ met mode env (expr_tree x.1)
-unfolding met_terms terms_of
-met_alone mode env x = append-nil (met mode env (expr_tree x.1))
-
-met_more : (mode : Mode) (env : Env) (xs : List (Bool × Expr)) (k : ℕ) (x d : Bool × Expr) → k < length xs → x ≡ get_or xs k d
-    → met_by mode env (take (k + 1) xs) ≡ met_by mode env (take k xs) ++ met mode env (expr_tree x.1)
-met_more mode env xs k x d h same =
-    ap (met_by mode env) (take_more xs k d h ∙ ap (λ y. take k xs ++ y ∷ []) (sym same))
-    ∙ met_append mode env (take k xs) (x ∷ []) ∙ ap (λ ms. met_by mode env (take k xs) ++ ms) (met_alone mode env x)
-
--- one term more is measured
-pub term_measured : (mode : Mode) (env : Env) (a b c : Totals) (xs : List (Bool × Expr)) (k : ℕ) (x d : Bool × Expr) → k < length xs → x ≡ get_or xs k d
-    → Measured mode a b (met_by mode env (take k xs)) → Measured mode b c (met mode env (expr_tree x.1))
-    → Measured mode a c (met_by mode env (take (k + 1) xs))
-term_measured mode env a b c xs k x d h same before one =
-    subst (λ ms. Measured mode a c ms) (sym (met_more mode env xs k x d h same))
-    (measured_append mode a b c (met_by mode env (take k xs)) (met mode env (expr_tree x.1)) before one)
-
--- what refuses a term refuses them all
-pub term_refused : (mode : Mode) (env : Env) (a b : Totals) (xs : List (Bool × Expr)) (k : ℕ) (x d : Bool × Expr) (error : SizeError) → k < length xs → x ≡ get_or xs k d
-    → Measured mode a b (met_by mode env (take k xs)) → IsCause (limits_passed mode b.size (met mode env (expr_tree x.1))) error
-    → IsCause (limits_passed mode a.size (met_by mode env xs)) error
-term_refused mode env a b xs k x d error h same before cause =
-    let front : List (Bool × Expr) = take (k + 1) xs in
-    let all : met_by mode env xs ≡ met_by mode env front ++ met_by mode env (drop (k + 1) xs) =
-    ap (met_by mode env) (sym (take-append-drop (k + 1) xs)) ∙ met_append mode env front (drop (k + 1) xs) in
-    subst (λ ms. IsCause (limits_passed mode a.size ms) error) (sym all)
-    (cause_first mode a.size (met_by mode env front) (met_by mode env (drop (k + 1) xs)) error
-    (subst (λ ms. IsCause (limits_passed mode a.size ms) error) (sym (met_more mode env xs k x d h same))
-    (cause_then mode a b (met_by mode env (take k xs)) (met mode env (expr_tree x.1)) error before cause)))
+met_first mode env x xs = refl
 
 -- ---- what is known of them
 
@@ -99,21 +65,43 @@ spans_more mode env xs k x d s h same is =
     ∙ sym (spans_append mode env (take k xs) (x ∷ []))
     ∙ ap (spans_of mode env) (sym (take_more xs k d h ∙ ap (λ y. take k xs ++ y ∷ []) (sym same)))
 
--- the terms so far
-pub record Summing (mode : Mode) (env : Env) (a b : Totals) (sum : Summed) (xs : List (Bool × Expr)) : Type 0 where
-  pub measured : Measured mode a b (met_by mode env xs)
-  pub sums : Sums sum (spans_of mode env xs)
+-- so many terms are measured and added
+abbrev pub TermsSoFar : Mode → Env → Totals → Totals → List (Bool × Expr) → ℕ → Summed → Type 0
+TermsSoFar mode env start now xs k sum = Going mode start now (met_by mode env xs) (met_by mode env (drop k xs)) (Sums sum (spans_of mode env (take k xs)))
 
-pub summing_none : (mode : Mode) (env : Env) (t : Totals) (sum : Summed) → Sums sum [] → Summing mode env t t sum []
-unfolding met_terms term_spans terms_of
-summing_none mode env t sum h = record { measured = measured_none mode t; sums = h }
+no_spans : (mode : Mode) (env : Env) (xs : List (Bool × Expr)) → spans_of mode env (take 0 xs) ≡ []
+unfolding term_spans terms_of
+no_spans mode env xs = refl
+
+pub terms_begin : (mode : Mode) (env : Env) (start : Totals) (xs : List (Bool × Expr)) (sum : Summed) → Sums sum [] → TermsSoFar mode env start start xs 0 sum
+terms_begin mode env start xs sum h = going_begins mode start _ _ refl (subst (Sums sum) (sym (no_spans mode env xs)) h)
+
+pub terms_more : (mode : Mode) (env : Env) (start now after : Totals) (xs : List (Bool × Expr)) (k : ℕ) (x d : Bool × Expr) (sum more : Summed) (y : Extent) (s : Span)
+    → k < length xs → x ≡ get_or xs k d → length xs < 2 ^ 64 → TermsSoFar mode env start now xs k sum
+    → Told mode now after (met mode env (expr_tree x.1)) (IsKnownExtent mode env (expr_tree x.1) y) → s ≡ span_of (grid_of y)
+    → ((spans : List Span) → length spans + 1 < 2 ^ 64 → Sums sum spans → Sums more (spans ++ signed_span x.0 s ∷ []))
+    → TermsSoFar mode env start after xs (k + 1) more
+terms_more mode env start now after xs k x d sum more y s within same few g told is adds =
+    going_more mode start now after _ _ (met mode env (expr_tree x.1)) _ g
+    (ap (met_by mode env) (drop_more xs k d within ∙ ap (λ z. z ∷ drop (k + 1) xs) (sym same)) ∙ met_first mode env x (drop (k + 1) xs)) told
+    (λ sums known.
+    subst (Sums more) (spans_more mode env xs k x d s within same (is ∙ ap span_of (sym known.extent)))
+    (adds (spans_of mode env (take k xs)) (spans_few mode env xs k within few) sums))
+
+none_met : (mode : Mode) (env : Env) → met_by mode env [] ≡ []
+unfolding met_terms terms_of
+none_met mode env = refl
+
+pub terms_end : (mode : Mode) (env : Env) (start now : Totals) (xs : List (Bool × Expr)) (k : ℕ) (sum : Summed) → length xs ≤ k → TermsSoFar mode env start now xs k sum
+    → Told mode start now (met_by mode env xs) (Sums sum (spans_of mode env xs))
+terms_end mode env start now xs k sum past g =
+    going_ends mode start now _ _ g (ap (met_by mode env) (drop_all k xs past) ∙ none_met mode env)
+    (λ sums. subst (λ l. Sums sum (spans_of mode env l)) (take_all k xs past) sums)
 
 -- ---- the whole chain
 
-pub chain_number : (mode : Mode) (env : Env) (p : Place) (tree : ExprTree) (xs : List (Bool × Expr)) → tree ≡ chain p (terms_of xs)
-    → holds_decision (decisions_in env) tree ≡ true → IsNumberNode mode env tree (sum_weight (spans_of mode env xs)) (sum_span (spans_of mode env xs))
+pub chain_number : (mode : Mode) (env : Env) (p : Place) (xs : List (Bool × Expr)) → holds_decision (decisions_in env) (chain p (terms_of xs)) ≡ true
+    → IsNumberNode mode env (chain p (terms_of xs)) (sum_weight (spans_of mode env xs)) (sum_span (spans_of mode env xs))
 unfolding reaches_at decided_weight
-chain_number mode env p tree xs is holds =
-    subst (λ t. IsNumberNode mode env t (sum_weight (spans_of mode env xs)) (sum_span (spans_of mode env xs))) (sym is)
-    (number_node mode env (chain p (terms_of xs)) (sum_weight (spans_of mode env xs)) (sum_span (spans_of mode env xs))
-    (ap (holds_decision (decisions_in env)) (sym is) ∙ holds) refl (extent-chain mode env p (terms_of xs)) refl)
+chain_number mode env p xs holds =
+    number_node mode env (chain p (terms_of xs)) (sum_weight (spans_of mode env xs)) (sum_span (spans_of mode env xs)) holds refl (extent-chain mode env p (terms_of xs)) refl

@@ -1,19 +1,25 @@
 -- The measures of an instance, by those of its cells, its clauses and its objective.
-use Rattle.std.proofs.Common.{◌≡◌, ℕ, ◌<◌, ◌≤◌, true, false, List, [], ◌∷◌, ◌++◌, refl, sym, ap, subst, ◌∙◌, arith}
-use Rattle.std.specs.Prelude.{Contains, nat_lt, if◌then◌else◌, Option, Some, None, option_map, option_to_list}
+use Rattle.std.proofs.Common.{◌≡◌, ℕ, ◌+◌, ◌<◌, ◌≤◌, Bool, length, true, false, List, [], ◌∷◌, ◌++◌, refl, sym, ap, subst, ◌∙◌, arith}
+use Rattle.std.specs.Prelude.{Contains, nat_le, nat_lt, if◌then◌else◌, Option, Some, None, option_map, option_to_list}
 use Rattle.std.proofs.lemmas.Grind.{flat_map-append}
 use Rattle.ep_base.specs.declared.operators.Limit.{Limit as LimitName}
+use Rattle.ep_size.proofs.RemainingSteps.{mapped_twice}
 use Rattle.ep_tree.specs.Binding.{Instance, Refusal, met_in, over_limit}
 use Rattle.ep_tree.specs.Environments.{Env}
-use Rattle.ep_tree.specs.Limits.{MOST_WEIGHT}
-use Rattle.ep_tree.specs.Measures.{met}
+use Rattle.ep_tree.specs.Limits.{MOST_SIZE, MOST_WEIGHT}
+use Rattle.ep_tree.specs.Measures.{met, weight_of}
 use Rattle.ep_tree.specs.Names.{put_all}
 use Rattle.ep_tree.specs.Solutions.{cells_bound, instance_limits, instance_size, instance_weight, limits_passed, met_instance, or_weight}
 use Rattle.ep_tree.specs.Trees.{ExprTree}
 use Rattle.ep_tree.specs.declared.values.Mode.{Mode}
-use Rattle.ep_size.proofs.Measurings.{cause_first, cause_then, measured_append, nothing_passed, size_refuses}
+use Rattle.ep_eval.proofs.MeterSteps.{told_as}
+use Rattle.ep_eval.specs.Meters.{Walked}
+use Rattle.ep_size.proofs.Measurings.{nothing_passed, passed_limits, size_refuses}
+use Rattle.ep_size.proofs.MeterSteps.{told_then}
 use Rattle.ep_size.specs.Causes.{IsCause, IsTooMany}
-use Rattle.ep_size.specs.Totals.{Celled, Measured, all_cells}
+use Rattle.ep_size.specs.Meters.{MeasuresInstance, Told, WeighsNodes, is_far}
+use Rattle.ep_size.specs.Totals.{Celled, all_cells, all_values, capped}
+use Rattle.ep_size.specs.declared.cells.CellTotals.{CellTotals}
 use Rattle.ep_size.specs.declared.errors.SizeError.{SizeError}
 use Rattle.ep_size.specs.declared.errors.SizeError.TheVariants.{Limit, Memory}
 use Rattle.ep_size.specs.declared.totals.Totals.{Totals}
@@ -25,33 +31,49 @@ env_within i = put_all (cells_bound i.finds) i.env
 abbrev pub goal_within : Instance → List ExprTree
 goal_within i = option_to_list (option_map (λ goal. goal.1) i.goal)
 
-pub map_twice : {A B C : Type 0} (f : B → C) (g : A → B) (o : Option A) → option_map f (option_map g o) ≡ option_map (λ x. f (g x)) o
-map_twice f g None = refl
-map_twice f g (Some x) = refl
-
 met_cut : (mode : Mode) (i : Instance) → met_instance mode i ≡ met_in mode (env_within i) i.clauses ++ met_in mode (env_within i) (goal_within i)
 unfolding met_instance met_in
 met_cut mode i = flat_map-append (met mode (env_within i)) i.clauses (goal_within i)
 
+-- the totals behind the cells of an instance
+abbrev pub behind_cells : CellTotals → Totals
+behind_cells cells = record { meter = record { size = cells.size; passed = None }; weight = cells.weight }
+
 -- the nodes of an instance, behind its cells
-pub whole : (mode : Mode) (i : Instance) (a b c : Totals) → Measured mode a b (met_in mode (env_within i) i.clauses)
-    → Measured mode b c (met_in mode (env_within i) (goal_within i)) → Measured mode a c (met_instance mode i)
-whole mode i a b c h k =
-    subst (λ ms. Measured mode a c ms) (sym (met_cut mode i))
-    (measured_append mode a b c (met_in mode (env_within i) i.clauses) (met_in mode (env_within i) (goal_within i)) h k)
+pub whole : (mode : Mode) (i : Instance) (cells : CellTotals) (b c : Totals) → Celled cells i.finds
+    → Told mode (behind_cells cells) b (met_in mode (env_within i) i.clauses) (Unit {0}) → Told mode b c (met_in mode (env_within i) (goal_within i)) (Unit {0}) → MeasuresInstance mode i c
+whole mode i cells b c celled h k =
+    let all : Told mode (behind_cells cells) c (met_instance mode i) (Unit {0}) =
+    subst (λ ms. Told mode (behind_cells cells) c ms (Unit {0})) (sym (met_cut mode i)) (told_then mode (behind_cells cells) b c _ _ h k (λ p q. tt)) in
+    let from = subst (λ n. Walked (is_far mode) (record { size = n; passed = None }) c.meter (met_instance mode i) (WeighsNodes mode (behind_cells cells) c (met_instance mode i) × Unit {0})) celled.size all in
+    let own = celled.weight in
+    record {
+      small = subst (λ n. n ≤ MOST_SIZE) celled.size celled.small;
+      walked = told_as _ c.meter (met_instance mode i) from (λ p. weighed cells.weight c.weight (all_values i.finds) (weight_of mode (met_instance mode i)) own p.0);
+    }
+  where
+    weighed : (n t v m : ℕ) → n ≡ capped v → capped t ≡ capped (n + m) → capped t ≡ capped (v + m)
+    weighed n t v m h k = omega (arith, h, k)
 
-pub whole_size : (mode : Mode) (i : Instance) (a b : Totals) → Celled a i.finds → Measured mode a b (met_instance mode i) → b.size ≡ instance_size mode i
+pub whole_size : (mode : Mode) (i : Instance) (t : Totals) → MeasuresInstance mode i t → t.meter.passed ≡ None → t.meter.size ≡ instance_size mode i
 unfolding instance_size
-whole_size mode i a b c m = omega (arith, c.size, m.size)
+whole_size mode i t m free = (m.walked.passes.goes free).count
 
-pub whole_weight : (mode : Mode) (i : Instance) (a b : Totals) → Celled a i.finds → Measured mode a b (met_instance mode i) → b.weight ≤ MOST_WEIGHT
-    → b.weight ≡ instance_weight mode i
+pub whole_weight : (mode : Mode) (i : Instance) (t : Totals) → MeasuresInstance mode i t → t.meter.passed ≡ None → t.weight ≤ MOST_WEIGHT → t.weight ≡ instance_weight mode i
 unfolding instance_weight
-whole_weight mode i a b c m h = omega (arith, c.weight, m.weight, h)
+whole_weight mode i t m free h = let weight = m.walked.told free in omega (arith, weight, h)
 
-behind_cells : (mode : Mode) (i : Instance) (a b : Totals) → Celled a i.finds → Measured mode a b (met_instance mode i)
-    → limits_passed mode (all_cells i.finds) (met_instance mode i) ≡ []
-behind_cells mode i a b c m = ap (λ n. limits_passed mode n (met_instance mode i)) (sym c.size) ∙ nothing_passed mode a b (met_instance mode i) c.small m
+few : (n k t : ℕ) → n ≤ MOST_SIZE → t ≡ n + k → (1 ≤ k → t ≤ MOST_SIZE) → n + k ≤ MOST_SIZE
+few n k t small count some = by (nat_le 1 k) refl
+  where
+    by : (b : Bool) → nat_le 1 k ≡ b → n + k ≤ MOST_SIZE
+    by true e = let most = some (grind (arith, e)) in omega (arith, count, most)
+    by false e = grind (arith, small, e)
+
+none_passed : (mode : Mode) (i : Instance) (t : Totals) → MeasuresInstance mode i t → t.meter.passed ≡ None → limits_passed mode (all_cells i.finds) (met_instance mode i) ≡ []
+none_passed mode i t m free =
+    let went = m.walked.passes.goes free in
+    nothing_passed mode (all_cells i.finds) (met_instance mode i) (few (all_cells i.finds) (length (met_instance mode i)) t.meter.size m.small went.count went.small) went.near
 
 light : (m n : ℕ) → n ≤ m → nat_lt m n ≡ false
 light m n h = grind arith
@@ -59,26 +81,24 @@ light m n h = grind arith
 heavy : (m n : ℕ) → m < n → nat_lt m n ≡ true
 heavy m n h = grind arith
 
-pub whole_within : (mode : Mode) (i : Instance) (a b : Totals) → Celled a i.finds → Measured mode a b (met_instance mode i) → b.weight ≤ MOST_WEIGHT
-    → instance_limits mode i ≡ []
+pub whole_within : (mode : Mode) (i : Instance) (t : Totals) → MeasuresInstance mode i t → t.meter.passed ≡ None → t.weight ≤ MOST_WEIGHT → instance_limits mode i ≡ []
 unfolding instance_limits or_weight
-whole_within mode i a b c m h =
-    ap (λ rs. or_weight rs (instance_weight mode i)) (behind_cells mode i a b c m)
-    ∙ ap (λ t. if t then over_limit LimitName.Weight ∷ [] else [])
-    (light MOST_WEIGHT (instance_weight mode i) (subst (λ n. n ≤ MOST_WEIGHT) (whole_weight mode i a b c m h) h))
+whole_within mode i t m free h =
+    ap (λ rs. or_weight rs (instance_weight mode i)) (none_passed mode i t m free)
+    ∙ ap (λ b. if b then over_limit LimitName.Weight ∷ [] else [])
+    (light MOST_WEIGHT (instance_weight mode i) (subst (λ n. n ≤ MOST_WEIGHT) (whole_weight mode i t m free h) h))
 
-heavier : (mode : Mode) (i : Instance) (a b : Totals) → Celled a i.finds → Measured mode a b (met_instance mode i) → MOST_WEIGHT < b.weight
-    → MOST_WEIGHT < instance_weight mode i
+heavier : (mode : Mode) (i : Instance) (t : Totals) → MeasuresInstance mode i t → t.meter.passed ≡ None → MOST_WEIGHT < t.weight → MOST_WEIGHT < instance_weight mode i
 unfolding instance_weight
-heavier mode i a b c m h = omega (arith, c.weight, m.weight, h)
+heavier mode i t m free h = let weight = m.walked.told free in omega (arith, weight, h)
 
-pub too_heavy : (mode : Mode) (i : Instance) (a b : Totals) → Celled a i.finds → Measured mode a b (met_instance mode i) → MOST_WEIGHT < b.weight
+pub too_heavy : (mode : Mode) (i : Instance) (t : Totals) → MeasuresInstance mode i t → t.meter.passed ≡ None → MOST_WEIGHT < t.weight
     → Contains (instance_limits mode i) (over_limit LimitName.Weight)
 unfolding instance_limits or_weight
-too_heavy mode i a b c m h =
-    subst (λ rs. Contains (or_weight rs (instance_weight mode i)) (over_limit LimitName.Weight)) (sym (behind_cells mode i a b c m))
-    (subst (λ t. Contains (if t then over_limit LimitName.Weight ∷ [] else []) (over_limit LimitName.Weight))
-    (sym (heavy MOST_WEIGHT (instance_weight mode i) (heavier mode i a b c m h))) (0, omega arith, refl))
+too_heavy mode i t m free h =
+    subst (λ rs. Contains (or_weight rs (instance_weight mode i)) (over_limit LimitName.Weight)) (sym (none_passed mode i t m free))
+    (subst (λ b. Contains (if b then over_limit LimitName.Weight ∷ [] else []) (over_limit LimitName.Weight))
+    (sym (heavy MOST_WEIGHT (instance_weight mode i) (heavier mode i t m free h))) (0, omega arith, refl))
 
 -- a limit of size or of reach is one of the instance's
 before_weight : (rs : List Refusal) (w : ℕ) (r : Refusal) → Contains rs r → Contains (or_weight rs w) r
@@ -92,24 +112,10 @@ unfolding instance_limits
 of_instance mode i Memory c = tt
 of_instance mode i (Limit l) c = before_weight (limits_passed mode (all_cells i.finds) (met_instance mode i)) (instance_weight mode i) (over_limit l) c
 
--- what refuses the clauses
-pub clauses_refuse : (mode : Mode) (i : Instance) (a : Totals) (error : SizeError) → Celled a i.finds
-    → IsCause (limits_passed mode a.size (met_in mode (env_within i) i.clauses)) error → IsCause (instance_limits mode i) error
-clauses_refuse mode i a error c h =
-    of_instance mode i error
-    (subst (λ n. IsCause (limits_passed mode n (met_instance mode i)) error) c.size
-    (subst (λ ms. IsCause (limits_passed mode a.size ms) error) (sym (met_cut mode i))
-    (cause_first mode a.size (met_in mode (env_within i) i.clauses) (met_in mode (env_within i) (goal_within i)) error h)))
-
--- what refuses the objective
-pub goal_refuses : (mode : Mode) (i : Instance) (a b : Totals) (error : SizeError) → Celled a i.finds
-    → Measured mode a b (met_in mode (env_within i) i.clauses)
-    → IsCause (limits_passed mode b.size (met_in mode (env_within i) (goal_within i))) error → IsCause (instance_limits mode i) error
-goal_refuses mode i a b error c m h =
-    of_instance mode i error
-    (subst (λ n. IsCause (limits_passed mode n (met_instance mode i)) error) c.size
-    (subst (λ ms. IsCause (limits_passed mode a.size ms) error) (sym (met_cut mode i))
-    (cause_then mode a b (met_in mode (env_within i) i.clauses) (met_in mode (env_within i) (goal_within i)) error m h)))
+-- a limit that is passed
+pub instance_passed : (mode : Mode) (i : Instance) (t : Totals) (l : LimitName) → MeasuresInstance mode i t → t.meter.passed ≡ Some l → Contains (instance_limits mode i) (over_limit l)
+instance_passed mode i t l m passed =
+    of_instance mode i (Limit l) (passed_limits mode (all_cells i.finds) (met_instance mode i) l (m.walked.passes.stops refl l passed))
 
 -- too many cells
 pub cells_refuse : (mode : Mode) (i : Instance) (error : SizeError) → IsTooMany (all_cells i.finds) error → IsCause (instance_limits mode i) error

@@ -8,18 +8,8 @@ use Rattle.ep_tree.specs.Trees.{ExprTree, ExprTrees, Generators}
 use Rattle.ep_tree.specs.Views.{expr_tree, expr_trees}
 use Rattle.ep_tree.specs.declared.values.Mode.{Mode}
 use Rattle.ep_eval.specs.Generating.{ranged_env, ranging_over}
-use Rattle.ep_eval.specs.declared.generating.Listing as evaluated_listing
-use Rattle.ep_eval.specs.declared.generating.Ranging as evaluated_ranging
-use Rattle.ep_size.specs.declared.generating.Listing.{Listing}
-use Rattle.ep_size.specs.declared.generating.Ranging.{Ranging}
-
--- what is listed, as evaluation has it
-abbrev pub listing_of : Listing → evaluated_listing.Listing
-listing_of l = record { body = l.body; conditions = l.conditions }
-
--- what names range over, as evaluation has it
-abbrev pub ranging_of : Ranging → evaluated_ranging.Ranging
-ranging_of r = record { listing = listing_of r.listing; domain = r.domain; later = r.later }
+use Rattle.ep_eval.specs.declared.generating.Ranging.{Ranging}
+use Rattle.ep_forms.specs.declared.forms.Listing.{Listing}
 
 -- what is known of a part, where conditions hold
 unfoldable pub part_extents : Mode → ExprTree → ExprTrees → Env → List Extent
@@ -36,5 +26,4 @@ known_of mode l gens env = listed_extents mode (expr_tree l.body.now) (expr_tree
 
 -- the same where a name stands for a number
 abbrev pub known_at : Mode → Env → Ranging → Name → List Name → ℤ → List Extent
-known_at mode env r name rest n =
-    known_of mode r.listing (ranging_over (ranging_of r) rest) (ranged_env env (ranging_of r) name n)
+known_at mode env r name rest n = known_of mode r.listing (ranging_over r rest) (ranged_env env r name n)

@@ -1,5 +1,4 @@
 pub mod Causes
-pub mod Extending
 pub mod Extents
 pub mod Finishing
 pub mod Folds
@@ -8,7 +7,7 @@ pub mod Generated
 pub mod Hulls
 pub mod Indices
 pub mod Lists
-pub mod Parts
+pub mod Meters
 pub mod Quantified
 pub mod Refusing
 pub mod Slices

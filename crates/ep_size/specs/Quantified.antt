@@ -5,8 +5,9 @@ use Rattle.ep_base.specs.declared.places.Place.{Place}
 use Rattle.ep_tree.specs.Environments.{Env}
 use Rattle.ep_tree.specs.Reach.{Span, extent, span_of}
 use Rattle.ep_tree.specs.declared.values.Mode.{Mode}
-use Rattle.ep_eval.specs.Instances.{instance_env, quantified_tree}
-use Rattle.ep_eval.specs.declared.gathering.Quantifier.{Quantifier}
+use Rattle.ep_eval.specs.Instances.{instance_env}
+use Rattle.ep_forms.specs.Forms.{quantified_tree}
+use Rattle.ep_forms.specs.declared.forms.Quantifier.{Quantifier}
 use Rattle.ep_size.specs.Sums.{Sums}
 use Rattle.ep_size.specs.Totals.{capped}
 use Rattle.ep_size.specs.declared.instances.Instances.{Instances}

@@ -1,6 +1,6 @@
 //! The cells of an instance: their number, what they weigh, and the environment in which their names stand for them.
 
-ghost use Rattle.std.specs.Prelude.{◌≡◌, ◌≤◌, ◌+◌, ◌*◌, [], ◌∷◌, length, map, IfOk, IfErr, OnOk};
+ghost use Rattle.std.specs.Prelude.{◌≡◌, ◌≤◌, ◌+◌, ◌*◌, length, map, IfOk, IfErr, OnOk};
 ghost use Rattle.ep_base.specs.Runs.{numbers_in};
 ghost use Rattle.ep_tree.specs.Limits as limits;
 ghost use Rattle.ep_tree.specs.Names.{put, put_all};
@@ -10,17 +10,22 @@ ghost use Rattle.ep_tree.specs.Types as types;
 ghost use Rattle.ep_eval.specs.Known.{env_of};
 ghost use Rattle.ep_instance_parts.specs.Instances.{find_of};
 ghost use Rattle.ep_size.specs.Totals.{Celled, all_cells, capped, MOST_TOLD};
-ghost use Rattle.ep_size.specs.declared.errors.SizeError.TheVariants as error;
-ghost use Rattle.ep_base.specs.declared.operators.Limit.TheVariants as limit;
 ghost use Rattle.ep_size.specs.Causes.{IsTooMany};
 
 use super::errors::SizeError;
-use super::totals::{MOST_SIZE, MOST_TOLD, Totals, product, told};
+use super::totals::{MOST_TOLD, product, told};
 use ep_base::{Limit, Memory, Name, Run, Runs};
-use ep_eval::Env;
+use ep_eval::{Env, MOST_SIZE};
 use ep_instance_parts::Find;
 use ep_numbers::copy_sets;
 use std::alloc::Global;
+
+/// How many cells there are so far, and what they weigh, as far as a weight is told.
+#[derive(Clone, Copy, Debug, PartialEq, Eq)]
+pub struct CellTotals {
+    pub size: u64,
+    pub weight: u64,
+}
 
 /// How many numbers a run has, as far as it is told.
 fn run_length(run: Run) -> u64
@@ -71,7 +76,7 @@ fn name_find(alloc: Global, env: &mut Env, find: &Find) -> Result<(), Memory>
 }
 
 /// The cells of one decision variable more.
-fn with_cells(before: Totals, find: &Find) -> Result<Totals, SizeError>
+fn with_cells(before: CellTotals, find: &Find) -> Result<CellTotals, SizeError>
     requires small { before.size ≤ limits.MOST_SIZE }
     requires told { before.weight ≤ MOST_TOLD }
     ensures size { IfOk result (λ t. t.size ≡ before.size + cell_count find.now.indices.items) }
@@ -85,20 +90,20 @@ fn with_cells(before: Totals, find: &Find) -> Result<Totals, SizeError>
         return Err(SizeError::Limit(Limit::Size));
     }
     let weight = product(cells, set_length(&find.values));
-    Ok(Totals {
+    Ok(CellTotals {
         size: before.size + cells,
         weight: told(before.weight + weight),
     })
 }
 
 /// The names of decision variables stand for their cells, and these are counted.
-pub fn name_cells(alloc: Global, env: &mut Env, finds: &[Find]) -> Result<Totals, SizeError>
+pub fn name_cells(alloc: Global, env: &mut Env, finds: &[Find]) -> Result<CellTotals, SizeError>
     ensures mode { env.new.mode ≡ env.old.mode }
     ensures known { OnOk result (env_of env.new ≡ put_all (cells_bound (map find_of finds.now)) (env_of env.old)) }
     ensures cells { IfOk result (λ t. Celled t (map find_of finds.now)) }
     ensures cause { IfErr result (IsTooMany (all_cells (map find_of finds.now))) }
 {
-    let mut totals = Totals { size: 0, weight: 0 };
+    let mut totals = CellTotals { size: 0, weight: 0 };
     let count = finds.len();
     for passed in 0..count {
         let find = &finds[count - 1 - passed];

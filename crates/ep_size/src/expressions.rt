@@ -1,27 +1,23 @@
 //! The measures of expressions.
 
-ghost use Rattle.std.specs.Prelude.{OnOk, IfErr, map, option_map, option_to_list};
+ghost use Rattle.std.specs.Prelude.{IfOk, map, option_map, option_to_list};
 ghost use Rattle.ep_tree.specs.Binding.{met_in};
 ghost use Rattle.ep_tree.specs.Measures.{met};
-ghost use Rattle.ep_tree.specs.Solutions.{limits_passed};
 ghost use Rattle.ep_tree.specs.Views.{expr_tree};
 ghost use Rattle.ep_eval.specs.Known.{env_of};
-ghost use Rattle.ep_size.specs.Causes.{IsCause};
-ghost use Rattle.ep_size.specs.Totals.{Measured};
+ghost use Rattle.ep_size.specs.Meters.{Told};
 
-use super::errors::SizeError;
 use super::extending::extent_of;
 use super::totals::Totals;
+use ep_base::Memory;
 use ep_eval::{Around, Env, Scope};
 use ep_tree::{Expr, Objective};
 use std::alloc::Global;
 
 /// Measures an expression behind what was measured before.
-pub fn measure_one(alloc: Global, env: &Env, totals: &mut Totals, e: &Expr) -> Result<(), SizeError>
-    ensures measured { OnOk result (Measured env.now.mode totals.old totals.new
-        (met env.now.mode (env_of env.now) (expr_tree e.now))) }
-    ensures cause { IfErr result (IsCause (limits_passed env.now.mode totals.old.size
-        (met env.now.mode (env_of env.now) (expr_tree e.now)))) }
+pub fn measure_one(alloc: Global, env: &Env, totals: &mut Totals, e: &Expr) -> Result<(), Memory>
+    ensures { IfOk result (λ _. Told env.now.mode totals.old totals.new
+        (met env.now.mode (env_of env.now) (expr_tree e.now)) (Unit {0})) }
 {
     let scope = Scope {
         alloc,
@@ -38,11 +34,9 @@ pub fn measure_all(
     env: &Env,
     totals: &mut Totals,
     clauses: &[Expr],
-) -> Result<(), SizeError>
-    ensures measured { OnOk result (Measured env.now.mode totals.old totals.new
-        (met_in env.now.mode (env_of env.now) (map expr_tree clauses.now))) }
-    ensures cause { IfErr result (IsCause (limits_passed env.now.mode totals.old.size
-        (met_in env.now.mode (env_of env.now) (map expr_tree clauses.now)))) }
+) -> Result<(), Memory>
+    ensures { IfOk result (λ _. Told env.now.mode totals.old totals.new
+        (met_in env.now.mode (env_of env.now) (map expr_tree clauses.now)) (Unit {0})) }
 {
     for clause in clauses {
         measure_one(alloc, env, totals, clause)?;
@@ -56,14 +50,15 @@ pub fn measure_goal(
     env: &Env,
     totals: &mut Totals,
     objective: Option<&Objective>,
-) -> Result<(), SizeError>
-    ensures measured { OnOk result (Measured env.now.mode totals.old totals.new
-        (met_in env.now.mode (env_of env.now) (option_to_list (option_map (λ o. expr_tree o.now.e) objective.entry)))) }
-    ensures cause { IfErr result (IsCause (limits_passed env.now.mode totals.old.size
-        (met_in env.now.mode (env_of env.now) (option_to_list (option_map (λ o. expr_tree o.now.e) objective.entry))))) }
+) -> Result<(), Memory>
+    ensures { IfOk result (λ _. Told env.now.mode totals.old totals.new
+        (met_in env.now.mode (env_of env.now) (option_to_list (option_map (λ o. expr_tree o.now.e) objective.entry))) (Unit {0})) }
 {
     match objective {
-        Some(objective) => measure_one(alloc, env, totals, &objective.e),
+        Some(objective) => {
+            measure_one(alloc, env, totals, &objective.e)?;
+            Ok(())
+        }
         None => Ok(()),
     }
 }

@@ -16,20 +16,19 @@ ghost use Rattle.ep_size.specs.Finishing.{Finishes, IsLightNode};
 use super::errors::SizeError;
 use super::extents::Extent;
 use super::nodes::{kept_span, number_node, truth_node};
-use super::totals::Totals;
 use ep_eval::{Scope, type_within};
 use ep_tree::{Expr, ValueType};
 
 /// A node that weighs nothing and of which this is known.
-fn light_node<'a>(totals: &mut Totals, known: Extent<'a>) -> Result<Extent<'a>, SizeError>
+fn light_node<'a>(total: &mut u64, known: Extent<'a>) -> Result<Extent<'a>, SizeError>
     ensures { (mode : EachMode) → (env : names.Env) → (e : ExprTree) → IsLightNode mode env e known.entry
-        → Finishes mode env e totals.old totals.new result }
+        → Finishes mode env e total.old total.new result }
 {
     match known {
-        Extent::Number(span) => number_node(totals, 0, kept_span(span)),
+        Extent::Number(span) => number_node(total, 0, kept_span(span)),
         Extent::Cells(span, indices) => match indices.split_first() {
             Some(_) => Ok(Extent::Cells(span, indices)),
-            None => number_node(totals, 0, kept_span(span)),
+            None => number_node(total, 0, kept_span(span)),
         },
         Extent::Fixed(held) => Ok(Extent::Fixed(held)),
         Extent::Nothing => Ok(Extent::Nothing),
@@ -55,20 +54,20 @@ fn is_truth(ty: ValueType) -> bool
 /// Brackets around an expression, of which this is known.
 pub fn group_node<'a>(
     scope: Scope<'_, 'a>,
-    totals: &mut Totals,
+    total: &mut u64,
     part: &Expr,
     known: Extent<'a>,
 ) -> Result<Extent<'a>, SizeError>
     ensures { (mode : EachMode) → (p : Place) → holds_decision (decisions_in (env_in scope.entry)) (group p (expr_tree part.now)) ≡ true
         → IsKnownExtent mode (env_in scope.entry) (expr_tree part.now) known.entry
-        → Finishes mode (env_in scope.entry) (group p (expr_tree part.now)) totals.old totals.new result }
+        → Finishes mode (env_in scope.entry) (group p (expr_tree part.now)) total.old total.new result }
 {
     match type_within(scope, part) {
         Ok(ty) => {
             if is_truth(ty) {
-                return Ok(truth_node(totals, 0));
+                return Ok(truth_node(total, 0));
             }
-            light_node(totals, known)
+            light_node(total, known)
         }
         Err(_) => Err(SizeError::Memory),
     }

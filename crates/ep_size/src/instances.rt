@@ -16,7 +16,7 @@ use super::errors::SizeError;
 use super::extents::{Extent, number_span};
 use super::nodes::{number_node, truth_node};
 use super::sums::Summed;
-use super::totals::{Totals, told};
+use super::totals::told;
 use ep_tree::QuantOp;
 
 /// What is known of the instances of a quantifier so far: their sum, and how many they are, as far as that is told.
@@ -61,18 +61,18 @@ pub fn bare_quantifier<'a>(body: Extent<'_>) -> Extent<'a>
 /// A quantifier of which these instances are known.
 #[tactic(auto, unfolding(ep_tree::specs::Measures::quantified_weight, ep_tree::specs::Reach::quantified_span))]
 pub fn finish_quantifier<'a>(
-    totals: &mut Totals,
+    total: &mut u64,
     op: QuantOp,
     instances: Instances,
 ) -> Result<Extent<'a>, SizeError>
     ensures { (mode : EachMode) → (env : names.Env) → (e : ExprTree) → (known : Option (List defined.Span))
         → HasInstances instances (unwrap_or known [])
         → IsNumberNode mode env e (measures.quantified_weight op (unwrap_or known [])) (defined.quantified_span op known)
-        → Finishes mode env e totals.old totals.new result }
+        → Finishes mode env e total.old total.new result }
 {
     match op {
-        QuantOp::ForAll => Ok(truth_node(totals, told(told(instances.count) + 1))),
-        QuantOp::Exists => Ok(truth_node(totals, told(told(instances.count) + 1))),
-        QuantOp::Sum => number_node(totals, instances.sum.weight(), instances.sum.span()),
+        QuantOp::ForAll => Ok(truth_node(total, told(told(instances.count) + 1))),
+        QuantOp::Exists => Ok(truth_node(total, told(told(instances.count) + 1))),
+        QuantOp::Sum => number_node(total, instances.sum.weight(), instances.sum.span()),
     }
 }

@@ -28,6 +28,7 @@ mod reads;
 mod remaining;
 mod row_counts;
 mod scalars;
+mod settling;
 mod slices;
 mod standing;
 mod sums;

@@ -1,6 +1,6 @@
 //! What is known of a matrix that is made of its parts.
 
-ghost use Rattle.std.specs.Prelude.{◌≡◌, ◌==◌, pos, true, IfErr, IfOk, if◌then◌else◌, length, map, Some, None, option_map};
+ghost use Rattle.std.specs.Prelude.{◌≡◌, ◌==◌, ℕ, pos, true, IfErr, IfOk, if◌then◌else◌, length, map, Some, None, option_map};
 ghost use Rattle.ep_base.specs.Runs.{counting};
 ghost use Rattle.ep_base.specs.declared.places.Place.{Place};
 ghost use Rattle.ep_tree.specs.Environments as names;
@@ -11,9 +11,8 @@ ghost use Rattle.ep_tree.specs.Values.{as_parts, list_value, matrix};
 ghost use Rattle.ep_tree.specs.declared.values.Mode.{Mode as EachMode};
 ghost use Rattle.ep_size.specs.Extents.{IsKnownExtent, grid_of, plain_span};
 ghost use Rattle.ep_size.specs.Finishing.{Finishes};
-ghost use Rattle.ep_size.specs.Lists.{TellsExtent, ListsExtent};
+ghost use Rattle.ep_size.specs.Lists.{ListsExtent};
 ghost use Rattle.ep_size.specs.declared.errors.SizeError.TheVariants as error;
-ghost use Rattle.ep_size.specs.declared.totals.Totals.{Totals as EachTotals};
 
 use super::errors::SizeError;
 use super::extents::{Extent, Span};
@@ -37,7 +36,7 @@ fn list_of<'a>(alloc: Global, spans: &[Span]) -> Result<Extent<'a>, SizeError>
 
 /// What is known of a `flatten` of which this is known.
 pub fn flat_node<'a>(alloc: Global, known: &Extent<'_>) -> Result<Extent<'a>, SizeError>
-    ensures { (mode : EachMode) → (env : names.Env) → (p : Place) → (e : ExprTree) → (t : EachTotals)
+    ensures { (mode : EachMode) → (env : names.Env) → (p : Place) → (e : ExprTree) → (t : ℕ)
         → holds_decision (decisions_in env) (flatten p e) ≡ true → IsKnownExtent mode env e known.now
         → Finishes mode env (flatten p e) t t result }
 {

@@ -1,6 +1,6 @@
 //! What is known of a name that stands for a decision variable.
 
-ghost use Rattle.std.specs.Prelude.{◌≡◌, IfOk, Some, length};
+ghost use Rattle.std.specs.Prelude.{◌≡◌, ℕ, IfOk, Some, length};
 ghost use Rattle.ep_base.specs.declared.places.Place.{Place};
 ghost use Rattle.ep_base.specs.Runs.{numbers_in};
 ghost use Rattle.ep_base.specs.declared.names.Name.{Name as EachName};
@@ -13,13 +13,11 @@ ghost use Rattle.ep_eval.specs.Scopes.{env_in, mode_in};
 ghost use Rattle.ep_size.specs.Extents.{plain_span};
 ghost use Rattle.ep_size.specs.Finishing.{Finishes};
 ghost use Rattle.ep_numbers.specs.Spans.{interval_of};
-ghost use Rattle.ep_size.specs.declared.totals.Totals.{Totals as EachTotals};
 
 use super::errors::SizeError;
 use super::extents::{Extent, Span};
 use super::intervals::near;
 use super::standing::is_quantified;
-use super::totals::Totals;
 use ep_base::{Name, Run, Runs};
 use ep_eval::{NamedDomain, Scope};
 use ep_numbers::{Span as Ends, span_of_set, widened, width};
@@ -81,7 +79,7 @@ fn cell_span(domain: &NamedDomain) -> Result<Span, SizeError>
 
 /// What is known of the cells of a decision variable, by what is known of each.
 fn cells_with(domain: &NamedDomain, span: Span) -> Result<Extent<'_>, SizeError>
-    ensures { (mode : EachMode) → (env : names.Env) → (name : EachName) → (p : Place) → (t : EachTotals)
+    ensures { (mode : EachMode) → (env : names.Env) → (name : EachName) → (p : Place) → (t : ℕ)
         → env name ≡ Some (cells_of domain.now) → plain_span span ≡ defined.cell_span domain.now.of domain.now.values
         → Finishes mode env (named p name) t t result }
 {
@@ -96,7 +94,7 @@ fn cells_with(domain: &NamedDomain, span: Span) -> Result<Extent<'_>, SizeError>
 
 /// What is known of the cells of a decision variable.
 fn cells_node(domain: &NamedDomain) -> Result<Extent<'_>, SizeError>
-    ensures { (mode : EachMode) → (env : names.Env) → (name : EachName) → (p : Place) → (t : EachTotals)
+    ensures { (mode : EachMode) → (env : names.Env) → (name : EachName) → (p : Place) → (t : ℕ)
         → env name ≡ Some (cells_of domain.now) → Finishes mode env (named p name) t t result }
 {
     match cell_span(domain) {
@@ -106,12 +104,8 @@ fn cells_node(domain: &NamedDomain) -> Result<Extent<'_>, SizeError>
 }
 
 /// What is known of a name that stands for a decision variable.
-pub fn named_node<'a>(
-    scope: Scope<'_, 'a>,
-    totals: &mut Totals,
-    name: &Name,
-) -> Result<Extent<'a>, SizeError>
-    ensures { (p : Place) → Finishes (mode_in scope.entry) (env_in scope.entry) (named p name.now) totals.old totals.new result }
+pub fn named_node<'a>(scope: Scope<'_, 'a>, name: &Name) -> Result<Extent<'a>, SizeError>
+    ensures { (p : Place) → (t : ℕ) → Finishes (mode_in scope.entry) (env_in scope.entry) (named p name.now) t t result }
 {
     if is_quantified(scope.around, name) {
         return Err(SizeError::Memory);

@@ -5,24 +5,23 @@ ghost use Rattle.ep_tree.specs.Environments as names;
 ghost use Rattle.ep_tree.specs.Reach as defined;
 ghost use Rattle.ep_tree.specs.Trees.{ExprTree};
 ghost use Rattle.ep_tree.specs.declared.values.Mode.{Mode as EachMode};
-ghost use Rattle.ep_size.specs.Extending.{Added};
 ghost use Rattle.ep_size.specs.Extents.{plain_span};
-ghost use Rattle.ep_size.specs.Finishing.{Finishes, Gives, IsNumberNode};
+ghost use Rattle.ep_size.specs.Finishing.{Added, Finishes, Gives, IsNumberNode};
 ghost use Rattle.ep_numbers.specs.Spans.{interval_of, wide_interval};
 ghost use Rattle.ep_size.specs.Totals.{MOST_TOLD, capped};
 
 use super::errors::SizeError;
 use super::extents::{Extent, Span, truth_span, wide_span};
 use super::intervals::near;
-use super::totals::{MOST_TOLD, Totals, told};
+use super::totals::{MOST_TOLD, told};
 use ep_numbers::{Span as Ends, WideSpan, negated, product, widened};
 
-/// Weighs a node.
-pub fn weigh(totals: &mut Totals, weight: u64)
+/// WeighsNodes a node.
+pub fn weigh(total: &mut u64, weight: u64)
     requires { weight ≤ MOST_TOLD }
-    ensures { (own : ℕ) → weight ≡ capped own → Added totals.old totals.new own }
+    ensures { (own : ℕ) → weight ≡ capped own → Added total.old total.new own }
 {
-    totals.weight = told(told(totals.weight) + weight);
+    *total = told(told(*total) + weight);
 }
 
 /// A number that takes all values between these ends.
@@ -102,28 +101,28 @@ pub fn product_span(x: Span, y: Span) -> Result<Span, SizeError>
 }
 
 /// A node whose own value is a truth value.
-pub fn truth_node<'a>(totals: &mut Totals, weight: u64) -> Extent<'a>
+pub fn truth_node<'a>(total: &mut u64, weight: u64) -> Extent<'a>
     requires { weight ≤ MOST_TOLD }
     ensures { (mode : EachMode) → (env : names.Env) → (e : ExprTree) → (w : ℕ) → weight ≡ capped w
-        → IsNumberNode mode env e w defined.truth_span → Finishes mode env e totals.old totals.new (Ok result) }
+        → IsNumberNode mode env e w defined.truth_span → Finishes mode env e total.old total.new (Ok result) }
 {
-    weigh(totals, weight);
+    weigh(total, weight);
     Extent::Number(truth_span())
 }
 
 /// A node whose own value is a number.
 pub fn number_node<'a>(
-    totals: &mut Totals,
+    total: &mut u64,
     weight: u64,
     span: Result<Span, SizeError>,
 ) -> Result<Extent<'a>, SizeError>
     requires { weight ≤ MOST_TOLD }
     ensures { (mode : EachMode) → (env : names.Env) → (e : ExprTree) → (w : ℕ) → (s : defined.Span) → weight ≡ capped w
-        → Gives span s → IsNumberNode mode env e w s → Finishes mode env e totals.old totals.new result }
+        → Gives span s → IsNumberNode mode env e w s → Finishes mode env e total.old total.new result }
 {
     match span {
         Ok(own) => {
-            weigh(totals, weight);
+            weigh(total, weight);
             Ok(Extent::Number(own))
         }
         Err(refused) => Err(refused),

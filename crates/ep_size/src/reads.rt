@@ -25,7 +25,6 @@ use super::picked::known_left;
 use super::reading::{Indexed, cells_left, index_widths, one_decided};
 use super::remaining::value_left;
 use super::slices::slice_node;
-use super::totals::Totals;
 use ep_base::Runs;
 use ep_eval::Held;
 use ep_tree::{Scalar, ValueType};
@@ -84,7 +83,7 @@ fn gives_cell(of_name: bool, decided: bool) -> bool
 
 /// A read that gives a scalar, by the scalars that are left.
 fn scalar_node<'a>(
-    totals: &mut Totals,
+    total: &mut u64,
     scalar: Scalar,
     of_name: bool,
     left: Hulled,
@@ -96,14 +95,14 @@ fn scalar_node<'a>(
         → of_scalar scalar ≡ type_in env (read p m is)
         → of_name ≡ is_decision_name env m
         → Hulls left (flat_map scalars_of (parts_left (map measured_of indices.now) (defined.extent mode env m)))
-        → Finishes mode env (read p m is) totals.old totals.new result }
+        → Finishes mode env (read p m is) total.old total.new result }
 {
     let decided = one_decided(indices);
     let of_cell = gives_cell(of_name, decided);
     match left.span(of_cell, scalar) {
         Ok(own) => {
             let weight = read_weight(decided, index_widths(indices), own, left.count());
-            number_node(totals, weight, Ok(own))
+            number_node(total, weight, Ok(own))
         }
         Err(refused) => Err(refused),
     }
@@ -125,7 +124,7 @@ fn scalar_in(ty: ValueType) -> Option<Scalar>
 /// A read of a matrix of which this is known, by these indices.
 pub fn read_node<'a>(
     alloc: Global,
-    totals: &mut Totals,
+    total: &mut u64,
     ty: ValueType,
     of_name: bool,
     known: &Extent<'a>,
@@ -137,11 +136,11 @@ pub fn read_node<'a>(
         → map measured_of indices.now ≡ measured_list mode env is
         → ty ≡ type_in env (read p m is)
         → of_name ≡ is_decision_name env m
-        → Finishes mode env (read p m is) totals.old totals.new result }
+        → Finishes mode env (read p m is) total.old total.new result }
 {
     match scalar_in(ty) {
         Some(scalar) => match left_of(alloc, known, indices) {
-            Ok(left) => scalar_node(totals, scalar, of_name, left, indices),
+            Ok(left) => scalar_node(total, scalar, of_name, left, indices),
             Err(_) => Err(SizeError::Memory),
         },
         None => slice_node(alloc, known, ty, indices),

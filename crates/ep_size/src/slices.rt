@@ -1,6 +1,6 @@
 //! Reads of cells of decision variables that leave cells.
 
-ghost use Rattle.std.specs.Prelude.{◌≡◌, ◌∷◌, [], List, ℤ, IfErr, IfOk, IfSome, Some, false, map, true};
+ghost use Rattle.std.specs.Prelude.{◌≡◌, ◌∷◌, [], List, ℕ, ℤ, IfErr, IfOk, IfSome, Some, false, map, true};
 ghost use Rattle.std.specs.List.{list_all, list_any};
 ghost use Rattle.ep_base.specs.declared.places.Place.{Place};
 ghost use Rattle.ep_tree.specs.Environments as names;
@@ -17,7 +17,6 @@ ghost use Rattle.ep_size.specs.Indices.{measured_of};
 ghost use Rattle.ep_size.specs.Lists.{TellsExtent};
 ghost use Rattle.ep_size.specs.Slices.{IsPart, LeavesDomains, is_told, names_one};
 ghost use Rattle.ep_size.specs.declared.errors.SizeError.TheVariants as error;
-ghost use Rattle.ep_size.specs.declared.totals.Totals.{Totals as EachTotals};
 
 use super::errors::SizeError;
 use super::extents::{Extent, Span};
@@ -271,7 +270,7 @@ pub fn slice_node<'a>(
     ty: ValueType,
     indices: &[Indexed],
 ) -> Result<Extent<'a>, SizeError>
-    ensures { (mode : EachMode) → (env : names.Env) → (p : Place) → (m : ExprTree) → (is : Indices) → (t : EachTotals)
+    ensures { (mode : EachMode) → (env : names.Env) → (p : Place) → (m : ExprTree) → (is : Indices) → (t : ℕ)
         → holds_decision (decisions_in env) (read p m is) ≡ true
         → IsKnownExtent mode env m known.now
         → map measured_of indices.now ≡ measured_list mode env is

@@ -6,7 +6,7 @@ ghost use Rattle.ep_tree.specs.Environments as names;
 ghost use Rattle.ep_tree.specs.Reach.{decisions_in, generator_names};
 ghost use Rattle.ep_tree.specs.Views as views;
 ghost use Rattle.ep_tree.specs.Views.{domain_tree, domains_of, end_of, expr_tree, expr_trees, indices_of, ranges_of, terms_of};
-ghost use Rattle.ep_eval.specs.Literals.{index_at};
+ghost use Rattle.ep_forms.specs.Forms.{index_at};
 ghost use Rattle.ep_eval.specs.Ranges.{alone};
 ghost use Rattle.ep_eval.specs.Scopes.{env_in, with_all};
 ghost use Rattle.ep_size.specs.Free as free;

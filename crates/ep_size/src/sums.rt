@@ -17,7 +17,7 @@ use super::errors::SizeError;
 use super::extents::{Extent, Span};
 use super::intervals::told_count;
 use super::nodes::{number_node, wide};
-use super::totals::{MOST_TOLD, Totals, told};
+use super::totals::{MOST_TOLD, told};
 use ep_numbers::WideSpan;
 
 /// What is known of a sum so far.
@@ -130,12 +130,12 @@ impl Summed {
 }
 
 /// A node whose own value is this sum.
-pub fn summed_node<'a>(totals: &mut Totals, sum: Summed) -> Result<Extent<'a>, SizeError>
+pub fn summed_node<'a>(total: &mut u64, sum: Summed) -> Result<Extent<'a>, SizeError>
     ensures { (mode : EachMode) → (env : names.Env) → (e : ExprTree) → (spans : List defined.Span) → Sums sum spans
         → IsNumberNode mode env e (measures.sum_weight spans) (defined.sum_span spans)
-        → Finishes mode env e totals.old totals.new result }
+        → Finishes mode env e total.old total.new result }
 {
-    number_node(totals, sum.weight(), sum.span())
+    number_node(total, sum.weight(), sum.span())
 }
 
 /// The sum of some numbers.

@@ -3,8 +3,7 @@
 ghost use Rattle.std.specs.Prelude.{◌≡◌, ◌*◌, ◌≤◌};
 ghost use Rattle.ep_size.specs.Totals.{MOST_TOLD, capped};
 
-/// The greatest size of an instance.
-pub const MOST_SIZE: u64 = 5_000_000;
+use ep_eval::Meter;
 
 /// The greatest weight of an instance.
 pub const MOST_WEIGHT: u64 = 20_000_000;
@@ -15,7 +14,7 @@ pub const MOST_TOLD: u64 = 20_000_001;
 /// How many cells and nodes were met, and what they weigh, as far as a weight is told.
 #[derive(Clone, Copy, Debug, PartialEq, Eq)]
 pub struct Totals {
-    pub size: u64,
+    pub meter: Meter,
     pub weight: u64,
 }
 

@@ -18,8 +18,9 @@ use Rattle.ep_tree.specs.Views.{domain_tree, expr_tree, expr_trees, terms_of}
 use Rattle.ep_tree.specs.declared.syntax.Expr.{Expr}
 use Rattle.ep_tree.specs.declared.values.Scalar.{Scalar}
 use Rattle.ep_eval.proofs.Instances.{quantified_bare}
-use Rattle.ep_eval.specs.Instances.{instance_value, quantified_tree}
-use Rattle.ep_eval.specs.declared.gathering.Quantifier.{Quantifier}
+use Rattle.ep_eval.specs.Instances.{instance_value}
+use Rattle.ep_forms.specs.Forms.{quantified_tree}
+use Rattle.ep_forms.specs.declared.forms.Quantifier.{Quantifier}
 use Rattle.ep_unroll.proofs.FormValues.{grows_on}
 use Rattle.ep_unroll.proofs.FreeValues.{agreed_put, scalar_kept}
 use Rattle.ep_unroll.proofs.MeaningSteps.{Listing, listing_begins, listing_ends, listing_more}

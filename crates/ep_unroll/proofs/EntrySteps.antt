@@ -1,20 +1,29 @@
 -- The scalars among which a read of what was unrolled chooses, one part after another.
-use Rattle.std.proofs.Common.{◌≡◌, ℕ, ℤ, Bool, true, false, List, [], ◌∷◌, ◌++◌, length, Some, None, refl, sym, ap, subst, ◌∙◌}
-use Rattle.std.specs.Prelude.{Option, map, option_and_then, if◌then◌else◌}
+use Rattle.std.proofs.Common.{◌≡◌, ℕ, suc, ◌<◌, ◌≤◌, ℤ, Bool, true, false, List, [], ◌∷◌, ◌++◌, length, Some, None, refl, sym, ap, subst, ◌∙◌, arith}
+use Rattle.std.specs.Prelude.{Option, is_some, map, option_and_then, option_map, if◌then◌else◌}
+use Rattle.std.specs.List.{All}
+use Rattle.std.specs.declared.alloc.Global.{Global}
+use Rattle.std.specs.declared.vec.Vec.{Vec}
 use Rattle.std.specs.Ordering.{int_eq}
 use Rattle.ep_base.proofs.Small.{map_is, no_some, some_is}
 use Rattle.ep_base.specs.Runs.{IsAscending}
+use Rattle.ep_eval.proofs.ReadSteps.{read_stated}
+use Rattle.ep_eval.specs.Reading.{part_under}
 use Rattle.ep_ground.specs.Nodes.{GroundNode}
-use Rattle.ep_tree.specs.Values.{ValueTree, all_defined, as_parts, at_index, matrix, part_at, read_value}
-use Rattle.ep_unroll.proofs.GrownParts.{terms_kept, worth_kept}
-use Rattle.ep_unroll.proofs.PickSteps.{EachSoFar, each_begin, each_done, each_more, entries_at, entries_none, entries_not_at}
+use Rattle.ep_ground.specs.Terms.{term_value}
+use Rattle.ep_tree.specs.Evaluation.{number_in}
+use Rattle.ep_tree.specs.Values.{Index, ValueTree, all_defined, as_parts, at_index, matrix, part_at, read_value, single}
+use Rattle.ep_unroll.proofs.FormSteps.{one_known}
+use Rattle.ep_unroll.proofs.GrownParts.{matrix_terms, matrix_worth, terms_kept, worth_kept}
+use Rattle.ep_unroll.proofs.PickSteps.{EachSoFar, each_begin, each_done, each_more, entries_at, entries_none, entries_not_at, one_read}
 use Rattle.ep_unroll.specs.Meanings.{AreTerms, worth}
+use Rattle.ep_unroll.specs.Numbers.{HasNumber}
 use Rattle.ep_unroll.specs.PartLists.{HaveTerms, worths}
 use Rattle.ep_unroll.specs.PartReads.{part_with, parts_worth}
-use Rattle.ep_unroll.specs.Picks.{AreEntries}
+use Rattle.ep_unroll.specs.Picks.{AreEntries, AreRead}
 use Rattle.ep_unroll.specs.declared.slots.Slot.{Slot}
 use Rattle.ep_unroll.specs.declared.slots.Slot.TheVariants.{At, Open}
-use Rattle.ep_unroll.specs.declared.unrolled.Unrolled.{Unrolled}
+use Rattle.ep_unroll.specs.declared.unrolled.Unrolled.{Unrolled, Matrix}
 
 -- ---- the part with an index
 
@@ -115,9 +124,63 @@ pub entries_without : (old : List GroundNode) (ss : List Slot) (value : List ℤ
 entries_without old ss value keys ts none nothing nowhere =
     entries_none old old ss value keys ts refl nothing nowhere (λ numbers v e js few. no_some (sym (none numbers) ∙ e))
 
-pub entries_same : (old new : List GroundNode) (ss : List Slot) (value other : List ℤ → Option ValueTree) (keys : List (List ℤ)) (ts : List ℕ) → ((numbers : List ℤ) → value numbers ≡ other numbers)
-    → AreEntries old new ss value keys ts → AreEntries old new ss other keys ts
-entries_same old new ss value other keys ts same h = record { grows = h.grows; known = h.known; values = λ numbers v e. h.values numbers v (same numbers ∙ e) }
+pub entries_when : (old new : List GroundNode) (ss : List Slot) (value other : List ℤ → Option ValueTree) (keys : List (List ℤ)) (ts : List ℕ)
+    → ((numbers : List ℤ) (v : ValueTree) → other numbers ≡ Some v → value numbers ≡ Some v) → AreEntries old new ss value keys ts → AreEntries old new ss other keys ts
+entries_when old new ss value other keys ts when h = record { grows = h.grows; known = h.known; values = λ numbers v e. h.values numbers v (when numbers v e) }
+
+-- a matrix of parts that are lent
+pub entries_whole : (old new : List GroundNode) (ss : List Slot) (x : Unrolled) (own : Vec ℤ Global) (parts : Vec Unrolled Global) (lent : List ℤ) (lent_parts : List Unrolled) (keys : List (List ℤ)) (ts : List ℕ)
+    → lent ≡ own.items → lent_parts ≡ parts.items → x ≡ Matrix own parts → AreTerms (length old) x
+    → (HaveTerms (length old) lent_parts → AreEntries old new ss (λ numbers. parts_worth lent old numbers lent_parts) keys ts) → AreEntries old new ss (λ numbers. worth old numbers x) keys ts
+entries_whole old new ss x own parts lent lent_parts keys ts same same_parts is known h =
+    entries_when old new ss (λ numbers. parts_worth lent old numbers lent_parts) (λ numbers. worth old numbers x) keys ts
+    (λ numbers v e.
+    ap (λ l. parts_worth l old numbers lent_parts) same ∙ ap (parts_worth own.items old numbers) same_parts
+    ∙ sym (ap (worth old numbers) is ∙ matrix_worth old numbers own parts) ∙ e)
+    (h (subst (HaveTerms (length old)) (sym same_parts) (matrix_terms (length old) own parts (subst (AreTerms (length old)) is known))))
+
+-- ---- numbers
+
+pub no_part : (o : Option ℤ) (i : Index) (is : List Index) (v : ValueTree) → option_map single o ≡ Some v → None ≡ read_value (i ∷ is) v
+unfolding read_value
+no_part None i is v e = no_some e
+no_part (Some n) i is v e = subst (λ w. None ≡ read_value (i ∷ is) w) (some_is e) refl
+
+pub single_again : (o : Option ℤ) → option_map single o ≡ option_map single (number_in (option_map single o))
+unfolding number_in
+single_again None = refl
+single_again (Some n) = refl
+
+pub scalar_seen : (o : Option ValueTree) → is_some (number_in o) ≡ true → o ≡ option_map single (number_in o)
+unfolding number_in
+scalar_seen None h = refl
+scalar_seen (Some (single n)) h = refl
+scalar_seen (Some (matrix is vs)) h = absurd cc
+
+-- a term's number is found without an index
+pub entries_scalar : (old new : List GroundNode) (value : List ℤ → Option ValueTree) (keys : List (List ℤ)) (ts : List ℕ) (t : ℕ) → ((numbers : List ℤ) → value numbers ≡ option_map single (number_in (value numbers)))
+    → HasNumber old new (λ numbers. number_in (value numbers)) t → keys ≡ [] ∷ [] → ts ≡ t ∷ [] → AreEntries old new [] value keys ts
+entries_scalar old new value keys ts t is own one alone = record {
+  grows = own.grows;
+  known = subst (All (λ u. u < length new)) (sym alone) (one_known t (length new) own.known);
+  values = λ numbers v e.
+      let p = map_is single (number_in (value numbers)) v (sym (is numbers) ∙ e) in (
+        p.0 ∷ [],
+        ap (map (term_value new numbers)) alone ∙ ap (λ o. o ∷ []) (own.value numbers ∙ p.1),
+        subst (λ ks. AreRead [] v ks (p.0 ∷ [])) (sym one) (one_read p.0 v p.2),
+      );
+}
+
+-- ---- values
+
+-- a part of a value
+pub seen_lead : (o : Option ValueTree) (i : ℤ) (w v : ValueTree) → Some w ≡ option_and_then (λ u. part_under u i) o → o ≡ Some v
+    → (u : ValueTree) × (Some w ≡ Some u) × ((is : List Index) → read_value (at_index i ∷ is) v ≡ read_value is u)
+seen_lead o i w v some e =
+    (w, refl, λ is. read_stated i is v ∙ ap (option_and_then (read_value is)) (sym (some ∙ ap (option_and_then (λ u. part_under u i)) e)))
+
+pub seen_miss : (o : Option ValueTree) (i : ℤ) (v : ValueTree) → None ≡ option_and_then (λ u. part_under u i) o → o ≡ Some v → (is : List Index) → read_value (at_index i ∷ is) v ≡ None
+seen_miss o i v none e is = read_stated i is v ∙ ap (option_and_then (read_value is)) (sym (none ∙ ap (option_and_then (λ u. part_under u i)) e))
 
 -- ---- each part
 

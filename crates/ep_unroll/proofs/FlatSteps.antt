@@ -1,9 +1,9 @@
 -- Scalars, each unrolled by itself, put behind others one after another.
-use Rattle.std.proofs.Common.{◌≡◌, ℕ, ◌+◌, ℤ, pos, List, [], ◌∷◌, ◌++◌, length, Some, None, refl, sym, ap, subst, ◌∙◌, slice_get, append_assoc}
-use Rattle.std.specs.Prelude.{Option, map, option_map}
+use Rattle.std.proofs.Common.{◌≡◌, ℕ, suc, ◌+◌, ◌-◌, ◌<◌, ◌≤◌, ℤ, pos, List, [], ◌∷◌, ◌++◌, length, drop, get_or, Some, None, Ok, Err, refl, sym, ap, subst, ◌∙◌, arith, slice_get, append_assoc}
+use Rattle.std.specs.Prelude.{OnOk, Option, Result, map, option_map}
 use Rattle.std.specs.declared.alloc.Global.{Global}
 use Rattle.std.specs.declared.vec.Vec.{Vec}
-use Rattle.std.proofs.lemmas.List.{append-nil, length-map, map-append}
+use Rattle.std.proofs.lemmas.List.{append-nil, drop_more, length-map, map-append}
 use Rattle.ep_base.specs.Reads.{all_there}
 use Rattle.ep_base.specs.Runs.{counting}
 use Rattle.ep_base.specs.declared.places.Place.{Place}
@@ -20,16 +20,82 @@ use Rattle.ep_unroll.proofs.FormValues.{there_defined}
 use Rattle.ep_unroll.proofs.GrownParts.{have_both, have_one, matrix_terms, matrix_worth}
 use Rattle.ep_unroll.proofs.MatrixSteps.{each_cut, joined, scalars_each, there_cut, whole_scalars}
 use Rattle.ep_unroll.proofs.PartListSteps.{defined_long}
-use Rattle.ep_unroll.proofs.ScalarSteps.{joined_all, joined_none, joined_regrouped}
 use Rattle.ep_unroll.specs.Flats.{AddsParts}
 use Rattle.ep_unroll.specs.Meanings.{AreTerms, Means, worth}
 use Rattle.ep_unroll.specs.PartLists.{HaveTerms, worths}
 use Rattle.ep_unroll.specs.Readings.{Numbering, cells_value}
+use Rattle.ep_unroll.specs.Scalars.{cells_from}
 use Rattle.ep_unroll.specs.declared.unrolled.Unrolled.{Unrolled, Fixed, Matrix, Number}
 
 -- scalars by nodes and by the numbers of the cells
 abbrev pub Scalars : Type 0
 Scalars = List GroundNode → List ℤ → Option (List ℤ)
+
+-- ---- lists joined, where both are there
+
+pub joined_none : (o : Option (List ℤ)) → joined (Some []) o ≡ o
+unfolding joined
+joined_none None = refl
+joined_none (Some xs) = refl
+
+pub joined_all : (o : Option (List ℤ)) → joined o (Some []) ≡ o
+unfolding joined
+joined_all None = refl
+joined_all (Some xs) = ap Some (append-nil xs)
+
+pub joined_regrouped : (a b c : Option (List ℤ)) → joined (joined a b) c ≡ joined a (joined b c)
+unfolding joined
+joined_regrouped None b c = refl
+joined_regrouped (Some x) None c = refl
+joined_regrouped (Some x) (Some y) None = refl
+joined_regrouped (Some x) (Some y) (Some z) = ap Some (append_assoc x y z)
+
+pub on_ok : {A E : Type 0} (r : Result A E) (P Q : Type 0) → (P → Q) → OnOk r P → OnOk r Q
+on_ok (Ok x) P Q f h = f h
+on_ok (Err e) P Q f h = h
+
+-- ---- what is left of numbers, and of cells
+
+pub numbers_cut : (all : List ℤ) (k : ℕ) → k < length all → Some (drop k all) ≡ joined (Some (get_or all k (pos 0) ∷ [])) (Some (drop (k + 1) all))
+unfolding joined
+numbers_cut all k less = ap Some (drop_more all k (pos 0) less)
+
+-- the cells that are left
+abbrev pub cells_left : ℕ → ℕ → ℕ → List ℤ → Option (List ℤ)
+cells_left first count passed numbers = all_there (cells_from numbers (first + passed) (count - passed))
+
+pub cells_first : (first count : ℕ) (numbers : List ℤ) → cells_left first count 0 numbers ≡ all_there (cells_from numbers first count)
+cells_first first count numbers = ap (λ k. all_there (cells_from numbers k (count - 0))) (none_behind first) ∙ ap (λ m. all_there (cells_from numbers first m)) (none_off count)
+  where
+    none_behind : (n : ℕ) → n + 0 ≡ n
+    none_behind n = omega arith
+
+    none_off : (n : ℕ) → n - 0 ≡ n
+    none_off n = omega arith
+
+there_front : (o : Option ℤ) (os : List (Option ℤ)) → all_there (o ∷ os) ≡ joined (all_there (o ∷ [])) (all_there os)
+there_front o os = there_cut (o ∷ []) os
+
+pub cells_cut : (first count passed : ℕ) (numbers : List ℤ) → passed < count
+    → cells_left first count passed numbers ≡ joined (all_there (slice_get numbers (first + passed) ∷ [])) (cells_left first count (passed + 1) numbers)
+unfolding cells_from
+cells_cut first count passed numbers less =
+    ap (λ m. all_there (cells_from numbers (first + passed) m)) (one_off count passed less)
+    ∙ ap (λ j. all_there (slice_get numbers (first + passed) ∷ cells_from numbers j (count - (passed + 1)))) (one_on first passed)
+    ∙ there_front (slice_get numbers (first + passed)) (cells_from numbers (first + (passed + 1)) (count - (passed + 1)))
+  where
+    one_off : (m n : ℕ) → n < m → m - n ≡ suc (m - (n + 1))
+    one_off m n h = omega (arith, h)
+
+    one_on : (m n : ℕ) → suc (m + n) ≡ m + (n + 1)
+    one_on m n = omega arith
+
+pub cells_end : (first count passed : ℕ) (numbers : List ℤ) → count ≤ passed → cells_left first count passed numbers ≡ Some []
+unfolding cells_from all_there
+cells_end first count passed numbers h = ap (λ m. all_there (cells_from numbers (first + passed) m)) (none_over count passed h)
+  where
+    none_over : (m n : ℕ) → m ≤ n → m - n ≡ 0
+    none_over m n h = omega (arith, h)
 
 -- ---- one scalar
 

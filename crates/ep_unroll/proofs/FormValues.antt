@@ -179,9 +179,6 @@ not_term n cells nodes mid new p e a t us =
     one_truth n cells nodes mid new e (negation p e) a t us (node.negation a) (λ x. not (is_one x))
     (λ r. evaluate-negation n.mode r.values p e ∙ ap (truth_in n.mode) (not_mapped (number_in (evaluate n.mode r.values e)))) (λ numbers value. refl)
 
-same_mapped : (k : ℤ → ℤ) (o : Option ℤ) → number_value (option_map k o) ≡ option_map single (option_map k o)
-same_mapped k o = refl
-
 pub absolute_term : (n : Numbering) (cells : Env) (nodes mid new : List GroundNode) (p : Place) (e : ExprTree) (a t : ℕ)
     → IsNumberOf n cells nodes mid e a → Puts mid new (node.absolute a) t → IsTermOf n cells nodes new (absolute p e) t
 unfolding node_value

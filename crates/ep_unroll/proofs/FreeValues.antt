@@ -8,6 +8,7 @@ use Rattle.ep_base.specs.Numbers.{absolute_of, compare_holds, factorial_of, has_
 use Rattle.ep_base.specs.Options.{map_both, on_both, on_three}
 use Rattle.ep_base.specs.declared.operators.CompareOp.{CompareOp}
 use Rattle.ep_base.specs.declared.names.Name.{Name}
+use Rattle.ep_size.proofs.FreeParts.{and_one, and_other, not_true}
 use Rattle.ep_tree_laws.proofs.SameTypes.{domain_type_is_kept, type_is_kept}
 use Rattle.ep_size.specs.Free.{are_free, are_free_domains, are_free_generators, are_free_indices, are_free_ranges, are_free_terms, is_free, is_free_domain, is_free_end, is_free_index}
 use Rattle.ep_tree.specs.Agreement.{Agree, AgreeOn}
@@ -21,14 +22,6 @@ use Rattle.ep_tree.specs.Values.{ValueTree, any_index, at_index, list_value, rea
 use Rattle.ep_tree.specs.declared.values.Mode.{Mode}
 use Rattle.ep_tree.specs.declared.values.Scalar.{Scalar}
 use Rattle.ep_tree.specs.declared.values.ValueType.{ValueType}
-
-and_one : (a b : Bool) → (a && b) ≡ true → a ≡ true
-and_one true b h = refl
-and_one false b h = h
-
-and_other : (a b : Bool) → (a && b) ≡ true → b ≡ true
-and_other true b h = h
-and_other false b h = absurd cc
 
 -- `a && b && c` groups to the left
 first_of_three : (a b c : Bool) → ((a && b) && c) ≡ true → a ≡ true
@@ -52,10 +45,6 @@ domain_agreed None other h = ap domain_bound h
 domain_agreed (Some (has_value t v)) other h = ap domain_bound h
 domain_agreed (Some (has_cells s is vs)) other h = sym (ap domain_bound h.1)
 domain_agreed (Some (has_domain s is vs)) other h = ap domain_bound h
-
-not_false : (b : Bool) → not b ≡ true → b ≡ false
-not_false true h = absurd cc
-not_false false h = refl
 
 -- two environments agree, and say the same of the names that a test doesn't tell
 pub record Like (f : Name → Bool) (env other : Env) : Type 0 where
@@ -235,7 +224,7 @@ mutual
   pub free_value : (mode : Mode) (f : Name → Bool) (env other : Env) → Like f env other → (e : ExprTree) → is_free f e ≡ true → evaluate mode env e ≡ evaluate mode other e
   free_value mode f env other h (number p n) k = refl
   free_value mode f env other h (truth p b) k = refl
-  free_value mode f env other h (named p name) k = ap value_bound (h.same name (not_false (f name) k))
+  free_value mode f env other h (named p name) k = ap value_bound (h.same name (not_true (f name) k))
   free_value mode f env other h (group p e) k = free_value mode f env other h e k
   free_value mode f env other h (negation p e) k = ap (λ v. truth_in mode (option_map not (truth_of v))) (free_value mode f env other h e k)
   free_value mode f env other h (minus p e) k = ap (λ v. number_value (option_map neg_ℤ (number_in v))) (free_value mode f env other h e k)

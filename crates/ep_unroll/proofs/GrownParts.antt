@@ -8,7 +8,7 @@ use Rattle.ep_tree.specs.Values.{all_defined, as_parts, matrix, single}
 use Rattle.ep_unroll.proofs.FormValues.{grown_value, grows_long}
 use Rattle.ep_unroll.specs.Growing.{Grows}
 use Rattle.ep_unroll.specs.Meanings.{AreTerms, RowHasTerms, row_worths, worth}
-use Rattle.ep_unroll.specs.PartLists.{HaveTerms, MayHaveTerms, listed_worths, worths}
+use Rattle.ep_unroll.specs.PartLists.{HaveTerms, worths}
 use Rattle.ep_unroll.specs.declared.unrolled.Unrolled.{Unrolled, Number, Cells, Fixed, Matrix, Matrix', Row_of-Unrolled, end_of-Unrolled, more_of-Unrolled, items-the_row-Unrolled, items_hidden-the_row-Unrolled-0}
 use Rattle.ep_unroll.specs.declared.unrolled.Unrolled.TheBlock.{hidden-the_row-Unrolled-0}
 
@@ -105,14 +105,3 @@ unfolding AreTerms
 terms_matrix count indices v h = items-row_terms count (hidden-the_row-Unrolled-0 v) (subst (HaveTerms count) (sym (items_hidden-the_row-Unrolled-0 v)) h)
 
 -- ---- parts that there may be
-
-pub may_kept : (old new : List GroundNode) (o : Option (List Unrolled)) → Grows old new → MayHaveTerms (length old) o → MayHaveTerms (length new) o
-unfolding MayHaveTerms
-may_kept old new None g h = tt
-may_kept old new (Some xs) g h = have_kept old new xs g h
-
-pub listed_kept : (old new : List GroundNode) (numbers : List ℤ) (o : Option (List Unrolled)) → Grows old new → MayHaveTerms (length old) o
-    → listed_worths new numbers o ≡ listed_worths old numbers o
-unfolding MayHaveTerms listed_worths
-listed_kept old new numbers None g h = refl
-listed_kept old new numbers (Some xs) g h = ap all_defined (worths_kept old new numbers xs g h)

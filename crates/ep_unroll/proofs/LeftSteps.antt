@@ -1,37 +1,43 @@
 -- What indices leave of what was unrolled, one part after another.
-use Rattle.std.proofs.Common.{◌≡◌, ℕ, ℤ, false, List, [], ◌∷◌, ◌++◌, Some, None, refl, sym, ap, subst, ◌∙◌, append_assoc}
+use Rattle.std.proofs.Common.{◌≡◌, ℕ, ℤ, false, List, [], ◌∷◌, ◌++◌, Some, None, refl, sym, ap, subst, ◌∙◌, append_assoc, slice_get}
 use Rattle.std.specs.Prelude.{Option, is_some, map, option_and_then, option_map}
 use Rattle.std.proofs.lemmas.List.{append-nil, map-append}
 use Rattle.std.specs.declared.alloc.Global.{Global}
 use Rattle.std.specs.declared.vec.Vec.{Vec}
-use Rattle.ep_base.proofs.Small.{no_some, some_is}
+use Rattle.ep_base.proofs.Small.{map_is, no_some, some_is}
 use Rattle.ep_eval.proofs.Lists.{values_from-map}
 use Rattle.ep_eval.specs.Helds.{seen_held}
 use Rattle.ep_eval.specs.declared.held.Held.{Held}
 use Rattle.ep_ground.specs.Nodes.{GroundNode}
 use Rattle.ep_ground.specs.Terms.{term_value}
-use Rattle.ep_tree.specs.Values.{Index, ValueTree, all_defined, any_index, as_parts, at_index, matrix, read_value, single}
+use Rattle.ep_tree.specs.Values.{Index, ValueTree, all_defined, any_index, as_parts, at_index, listed_values, matrix, read_value, single}
 use Rattle.ep_tree.specs.Views.{value_tree, values_from}
 use Rattle.ep_tree.specs.declared.values.Value.{Value}
-use Rattle.ep_unroll.proofs.ColumnSteps.{listed_parts}
-use Rattle.ep_unroll.proofs.EntrySteps.{defined_first, opened_parts, part_leads, part_misses}
+use Rattle.ep_unroll.proofs.EntrySteps.{defined_first, no_part, opened_parts, part_leads, part_misses}
 use Rattle.ep_unroll.proofs.GrownParts.{have_both, have_one, matrix_worth, terms_matrix}
+use Rattle.ep_unroll.proofs.PartSteps.{is_worth}
+use Rattle.ep_unroll.specs.Blocks.{IsWorth}
 use Rattle.ep_unroll.specs.Lefts.{IsLeft}
 use Rattle.ep_unroll.specs.Meanings.{AreTerms, worth}
 use Rattle.ep_unroll.specs.PartLists.{HaveTerms, worths}
 use Rattle.ep_unroll.specs.PartReads.{part_with, parts_worth}
-use Rattle.ep_unroll.specs.declared.unrolled.Unrolled.{Unrolled, Fixed, Matrix, Number}
+use Rattle.ep_unroll.specs.Readings.{cells_value}
+use Rattle.ep_unroll.specs.declared.unrolled.Unrolled.{Unrolled, Cells, Fixed, Matrix, Matrix', Number}
 
 -- ---- a number, which has no part
 
-no_part : (o : Option ℤ) (i : Index) (is : List Index) (v : ValueTree) → option_map single o ≡ Some v → None ≡ read_value (i ∷ is) v
-unfolding read_value
-no_part None i is v e = no_some e
-no_part (Some n) i is v e = subst (λ w. None ≡ read_value (i ∷ is) w) (some_is e) refl
-
 pub number_left : (x : Unrolled) (t : ℕ) (i : Index) (is : List Index) → x ≡ Number t → IsLeft (λ nodes numbers. worth nodes numbers x) (i ∷ is) (Fixed None)
-unfolding worth
+unfolding worth IsWorth
 number_left x t i is same nodes numbers v e = no_part (term_value nodes numbers t) i is v (sym (ap (worth nodes numbers) same) ∙ e)
+
+-- ---- no index
+
+pub some_worth : (nodes : List GroundNode) (numbers : List ℤ) (x : Unrolled) (v : ValueTree) → worth nodes numbers x ≡ Some v → IsWorth nodes numbers x (Some v)
+unfolding worth IsWorth
+some_worth nodes numbers (Number t) v e = e
+some_worth nodes numbers (Cells k domains) v e = (v, refl, e)
+some_worth nodes numbers (Fixed seen) v e = e
+some_worth nodes numbers (Matrix' indices size parts) v e = e
 
 -- ---- the part with an index
 
@@ -41,7 +47,7 @@ unfolding read_value
 left_part own xs i x y is some h nodes numbers v e =
     let p = opened_parts own nodes numbers xs v e in
     let q = part_leads nodes numbers own xs i x p.0 p.1 some in
-    h nodes numbers q.0 q.1 ∙ sym (ap (option_and_then (read_value is)) q.2) ∙ ap (read_value (at_index i ∷ is)) p.2
+    subst (IsWorth nodes numbers y) (sym (ap (option_and_then (read_value is)) q.2) ∙ ap (read_value (at_index i ∷ is)) p.2) (h nodes numbers q.0 q.1)
 
 pub left_nowhere : (own : List ℤ) (xs : List Unrolled) (i : ℤ) (is : List Index) (o : List GroundNode → List ℤ → Option ValueTree) → part_with own xs i ≡ None
     → ((nodes : List GroundNode) (numbers : List ℤ) → o nodes numbers ≡ None)
@@ -52,6 +58,19 @@ left_nowhere own xs i is o none nothing nodes numbers v e =
     nothing nodes numbers ∙ sym (ap (option_and_then (read_value is)) (part_misses nodes numbers own xs i p.0 p.1 none)) ∙ ap (read_value (at_index i ∷ is)) p.2
 
 -- ---- each part
+
+pub listed_parts : (ws : List ValueTree) → listed_values (as_parts ws) ≡ ws
+unfolding listed_values as_parts
+listed_parts [] = refl
+listed_parts (w ∷ ws) = ap (λ vs. w ∷ vs) (listed_parts ws)
+
+-- a number has no parts
+pub nothing_of_number : (nodes : List GroundNode) (numbers : List ℤ) (domains : List (List ℤ)) (first : ℕ) (v : ValueTree) (rest : List Index) (x : Option ValueTree)
+    → domains ≡ [] → cells_value numbers domains first ≡ Some v → x ≡ None → x ≡ read_value (any_index ∷ rest) v
+unfolding cells_value read_value
+nothing_of_number nodes numbers domains first v rest x none e is =
+    let p = map_is single (slice_get numbers first) v (ap (λ ds. cells_value numbers ds first) (sym none) ∙ e) in
+    is ∙ ap (read_value (any_index ∷ rest)) p.2
 
 -- What indices leave of the parts that were passed, where others are left.
 pub record LeftSoFar (is : List Index) (all left ys : List Unrolled) : Type 0 where
@@ -78,7 +97,7 @@ left_more is all left behind ys more x y so cut put h has = record {
         ap (λ l. worths nodes numbers l ++ map (read_value is) q.1) put
             ∙ ap (λ os. os ++ map (read_value is) q.1) (map-append (worth nodes numbers) ys (y ∷ []))
             ∙ append_assoc (worths nodes numbers ys) (worth nodes numbers y ∷ []) (map (read_value is) q.1)
-            ∙ ap (λ o. worths nodes numbers ys ++ o ∷ map (read_value is) q.1) (h nodes numbers q.0 q.2)
+            ∙ ap (λ o. worths nodes numbers ys ++ o ∷ map (read_value is) q.1) (is_worth nodes numbers y (read_value is q.0) (h nodes numbers q.0 q.2))
             ∙ ap (λ us. worths nodes numbers ys ++ map (read_value is) us) q.4
             ∙ p.2,
       );
@@ -89,7 +108,7 @@ left_more is all left behind ys more x y so cut put h has = record {
 
 pub left_done : (is : List Index) (own : List ℤ) (all left : List Unrolled) (js : Vec ℤ Global) (ys : Vec Unrolled Global) → LeftSoFar is all left ys.items → left ≡ [] → js.items ≡ own
     → IsLeft (λ nodes numbers. parts_worth own nodes numbers all) (any_index ∷ is) (Matrix js ys)
-unfolding read_value all_defined
+unfolding read_value all_defined IsWorth
 left_done is own all left js ys so none same nodes numbers v e =
     let p = opened_parts own nodes numbers all v e in
     let q = so.worths nodes numbers p.0 p.1 in

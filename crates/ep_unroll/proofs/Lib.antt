@@ -1,7 +1,6 @@
 pub mod AscendSteps
 pub mod CellNames
 pub mod ClauseSteps
-pub mod ColumnSteps
 pub mod CycleSteps
 pub mod EntrySteps
 pub mod FirstSteps
@@ -15,7 +14,6 @@ pub mod GrownParts
 pub mod IndexLists
 pub mod LeftSteps
 pub mod ListFormValues
-pub mod ListingDepths
 pub mod MatrixSteps
 pub mod MeaningSteps
 pub mod NeedSteps
@@ -38,6 +36,5 @@ pub mod TableSteps
 pub mod TotalSteps
 pub mod TruthSteps
 pub mod TypedReadings
-pub mod ValueSteps
 pub mod Vectors
 pub mod WholeSteps

@@ -7,18 +7,18 @@ use Rattle.std.proofs.lemmas.List.Elements.{All-push}
 use Rattle.ep_ground.specs.Nodes.{GroundNode}
 use Rattle.ep_ground.specs.Terms.{term_value}
 use Rattle.ep_tree.specs.Environments.{Env}
-use Rattle.ep_tree.specs.Evaluation.{domain_values, evaluate, number_in}
+use Rattle.ep_tree.specs.Evaluation.{domain_values, evaluate}
 use Rattle.ep_tree.specs.Reach.{decisions_in}
 use Rattle.ep_tree.specs.Trees.{DomainTree, ExprTree}
-use Rattle.ep_tree.specs.Values.{ValueTree, single}
+use Rattle.ep_tree.specs.Values.{ValueTree}
 use Rattle.ep_tree.specs.declared.values.Mode.{Mode}
 use Rattle.ep_size.specs.Free.{is_free, is_free_domain}
 use Rattle.ep_unroll.proofs.FormValues.{grows_long, grows_on, grown_value}
 use Rattle.ep_unroll.proofs.FreeValues.{agreed_like, free_numbers, free_value}
 use Rattle.ep_unroll.specs.Growing.{Grows}
-use Rattle.ep_unroll.specs.Meanings.{AreTerms, IsNumberOf, IsTermOf, Means, worth}
+use Rattle.ep_unroll.specs.Meanings.{AreTerms, IsTermOf, Means, worth}
 use Rattle.ep_unroll.specs.Readings.{Numbering, Reading}
-use Rattle.ep_unroll.specs.declared.unrolled.Unrolled.{Number}
+use Rattle.ep_unroll.specs.declared.unrolled.Unrolled.{Number, Unrolled}
 
 pub grows_none : (a b : List GroundNode) → b ≡ a → Grows a b
 grows_none a b same = record { more = []; whole = same ∙ sym (append-nil a) }
@@ -35,22 +35,16 @@ numbers_are n env r mode d ns free given = sym (free_numbers mode (decisions_in 
 
 -- ---- a term as what was unrolled
 
-number_of_single : (o : Option ℤ) → number_in (option_map single o) ≡ o
-unfolding number_in
-number_of_single None = refl
-number_of_single (Some x) = refl
-
 pub term_means : (n : Numbering) (cells : Env) (old new : List GroundNode) (e : ExprTree) (t : ℕ) → IsTermOf n cells old new e t → Means n cells old new e (Number t)
 unfolding worth AreTerms
 term_means n cells old new e t h = record { grows = h.grows; known = h.known; value = λ r. sym (h.value r) }
 
-pub means_number : (n : Numbering) (cells : Env) (old new : List GroundNode) (e : ExprTree) (t : ℕ) → Means n cells old new e (Number t) → IsNumberOf n cells old new e t
-unfolding worth AreTerms
-means_number n cells old new e t h = record {
-  grows = h.grows;
-  known = h.known;
-  number = λ r. sym (number_of_single (term_value new r.numbers t)) ∙ ap number_in (h.value r);
-}
+-- what is unrolled of an expression is that of another tree of it
+pub means_as : (n : Numbering) (cells : Env) (old new : List GroundNode) (x y : ExprTree) (k : Unrolled) → x ≡ y → Means n cells old new x k → Means n cells old new y k
+means_as n cells old new x y k same h = subst (λ e. Means n cells old new e k) same h
+
+pub term_as : (n : Numbering) (cells : Env) (old new : List GroundNode) (x y : ExprTree) (t : ℕ) → x ≡ y → IsTermOf n cells old new x t → IsTermOf n cells old new y t
+term_as n cells old new x y t same h = subst (λ e. IsTermOf n cells old new e t) same h
 
 -- ---- lists of terms, one after another
 

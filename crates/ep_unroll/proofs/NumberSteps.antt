@@ -2,14 +2,12 @@
 use Rattle.std.proofs.Common.{◌≡◌, ℕ, ℤ, List, [], ◌∷◌, Some, None, refl, sym, ap, subst, ◌∙◌, slice_get}
 use Rattle.std.specs.Prelude.{Option, length, option_map, unwrap_or}
 use Rattle.std.proofs.lemmas.List.{append-nil}
-use Rattle.ep_base.specs.declared.names.Name.{Name}
-use Rattle.ep_base.specs.declared.places.Place.{Place}
 use Rattle.ep_ground.specs.Nodes.{GroundNode, cell, constant, undefined}
 use Rattle.ep_ground.specs.Terms.{node_value, term_value}
-use Rattle.ep_tree.proofs.EvaluationEquations.{evaluate-named}
-use Rattle.ep_tree.specs.Environments.{Bound, Env, has_cells, has_domain, has_value, value_bound}
+use Rattle.ep_size.proofs.LookSteps.{only_cells_is}
+use Rattle.ep_tree.specs.Environments.{Bound, Env, has_cells, has_domain, has_value}
 use Rattle.ep_tree.specs.Evaluation.{number_in}
-use Rattle.ep_tree.specs.Trees.{ExprTree, named}
+use Rattle.ep_tree.specs.Trees.{ExprTree}
 use Rattle.ep_tree.specs.Values.{ValueTree, as_parts, matrix, single}
 use Rattle.ep_tree.specs.declared.values.Scalar.{Scalar}
 use Rattle.ep_eval.specs.Bounds.{only_cells}
@@ -17,7 +15,7 @@ use Rattle.ep_unroll.proofs.FormValues.{grows_on}
 use Rattle.ep_unroll.specs.Growing.{Puts}
 use Rattle.ep_unroll.specs.Meanings.{AreTerms, IsNumberOf, Means, worth}
 use Rattle.ep_unroll.specs.Numbers.{HasNumber}
-use Rattle.ep_unroll.specs.Readings.{Numbering, ReadsName, cells_value}
+use Rattle.ep_unroll.specs.Readings.{Numbering, cells_value}
 use Rattle.ep_unroll.specs.declared.unrolled.Unrolled.{Unrolled, Number}
 
 pub constant_number : (old new : List GroundNode) (x : ℤ) (o : Option ℤ) (t : ℕ) → o ≡ Some x → Puts old new (constant x) t → HasNumber old new (λ numbers. o) t
@@ -79,32 +77,3 @@ number_means n cells nodes mid new e x number t is h has = record {
 
 some_number : (k m : ℕ) → Some k ≡ Some m → k ≡ m
 some_number k m h = ap (λ o. unwrap_or o k) h
-
-cells_read : (o : Option ℕ) (numbers : List ℤ) (one other : Option Bound) (first : ℕ) (s : Scalar) (indices : List (List ℤ)) (values : List ℤ) → o ≡ Some first → one ≡ Some (has_cells s indices values)
-    → ReadsName o numbers one other → cells_value numbers indices first ≡ value_bound other
-unfolding ReadsName value_bound
-cells_read o numbers one other first s indices values begins stands h =
-    let r : ReadsName o numbers (Some (has_cells s indices values)) other = subst (λ b. ReadsName o numbers b other) stands h in
-    let same : r.0 ≡ first = some_number r.0 first (sym r.2 ∙ begins) in
-    ap (cells_value numbers indices) (sym same) ∙ r.4 ∙ sym (ap value_bound r.3)
-
--- the cells of a decision variable
-pub cells_means : (n : Numbering) (env : Env) (nodes : List GroundNode) (p : Place) (name : Name) (first : ℕ) (s : Scalar) (indices : List (List ℤ)) (values : List ℤ) (x : Unrolled)
-    → n.first name ≡ Some first → env name ≡ Some (has_cells s indices values)
-    → ((numbers : List ℤ) → worth nodes numbers x ≡ cells_value numbers indices first) → AreTerms (length nodes) x → Means n env nodes nodes (named p name) x
-cells_means n env nodes p name first s indices values x begins stands is known = record {
-  grows = record { more = []; whole = sym (append-nil nodes) };
-  known = known;
-  value = λ r.
-      is r.numbers
-      ∙ cells_read (n.first name) r.numbers (env name) (r.values name) first s indices values begins stands (r.reads.names name)
-      ∙ sym (evaluate-named n.mode r.values p name);
-}
-
--- what has cells is what its cells say
-pub only_cells_is : (b : Option Bound) (s : Scalar) (is : List (List ℤ)) (values : List ℤ) → only_cells b ≡ Some (has_cells s is values) → b ≡ Some (has_cells s is values)
-unfolding only_cells
-only_cells_is None s is values h = absurd cc
-only_cells_is (Some (has_value t v)) s is values h = absurd cc
-only_cells_is (Some (has_cells t js vs)) s is values h = h
-only_cells_is (Some (has_domain t js vs)) s is values h = absurd cc

@@ -8,14 +8,14 @@ use Rattle.ep_base.specs.Numbers.{all_one, is_one}
 use Rattle.ep_base.specs.Options.{map_both, on_both}
 use Rattle.ep_base.specs.declared.names.Name.{Name}
 use Rattle.ep_base.specs.declared.places.Place.{Place}
-use Rattle.ep_eval.proofs.GeneratingSteps.{comprehension_is, lost_behind, none_before, none_behind, regrouped}
+use Rattle.ep_eval.proofs.GeneratingSteps.{comprehension_is, lost_behind, none_before, none_behind, regrouped, values_name}
 use Rattle.ep_eval.proofs.LiteralForms.{indices_differ, indices_match}
-use Rattle.ep_eval.specs.Generating.{how_many, generated_values, lists_joined, part_value, part_where}
+use Rattle.ep_eval.specs.Generating.{how_many, generated_values, lists_joined, part_value, part_where, some_joined}
 use Rattle.ep_ground.specs.Nodes.{GroundNode}
 use Rattle.ep_tree.proofs.EvaluationEquations.{evaluate-literal}
 use Rattle.ep_tree.specs.Environments.{Env, scalar_in, with_number}
-use Rattle.ep_tree.specs.Evaluation.{all_true, evaluate, index_values, matrix_value, number_in, truth_of, values_of}
-use Rattle.ep_tree.specs.Trees.{DomainTree, ExprTree, ExprTrees, Generators, IndexDomain, comprehension, literal}
+use Rattle.ep_tree.specs.Evaluation.{all_true, domain_values, evaluate, index_values, matrix_value, number_in, truth_of, values_of}
+use Rattle.ep_tree.specs.Trees.{DomainTree, ExprTree, ExprTrees, Generators, IndexDomain, comprehension, generator_and, literal}
 use Rattle.ep_tree.specs.TypedValues.{is_number_of}
 use Rattle.ep_tree.specs.Values.{ValueTree, all_defined, as_parts, matrix, with_indices}
 use Rattle.ep_tree.specs.Views.{expr_tree, expr_trees}
@@ -346,3 +346,25 @@ truths_cut mode env all x rest cut =
 pub no_truths : (mode : Mode) (env : Env) (all : List Expr) → all ≡ [] → all_true (values_of mode env (expr_trees all)) ≡ Some true
 unfolding all_true all_defined all_one
 no_truths mode env all none = ap (λ xs. all_true (values_of mode env (expr_trees xs))) none ∙ ap all_true (values_end mode env)
+
+-- ---- a name over a domain
+
+abbrev ranged : Mode → ExprTree → ExprTrees → Name → List Name → DomainTree → Generators → Env → ℤ → Option (List ValueTree)
+ranged mode e conditions name names d gens env n = generated_values mode e conditions (generator_and names d gens) (with_number name (scalar_in env d) n env)
+
+-- its parts, where the domain has values
+pub values_some :
+    (mode : Mode) (e : ExprTree) (conditions : ExprTrees) (name : Name) (names : List Name) (d : DomainTree) (gens : Generators) (env : Env) (ns : List ℤ)
+    → domain_values mode env d ≡ Some ns
+    → generated_values mode e conditions (generator_and (name ∷ names) d gens) env
+    ≡ lists_joined (map (λ n. generated_values mode e conditions (generator_and names d gens) (with_number name (scalar_in env d) n env)) ns)
+unfolding some_joined
+values_some mode e conditions name names d gens env ns h =
+    values_name mode e conditions name names d gens env ∙ ap (λ o. some_joined (option_map (map (ranged mode e conditions name names d gens env)) o)) h
+
+-- none, where it has none
+pub values_none : (mode : Mode) (e : ExprTree) (conditions : ExprTrees) (name : Name) (names : List Name) (d : DomainTree) (gens : Generators) (env : Env)
+    → domain_values mode env d ≡ None → generated_values mode e conditions (generator_and (name ∷ names) d gens) env ≡ None
+unfolding some_joined
+values_none mode e conditions name names d gens env h =
+    values_name mode e conditions name names d gens env ∙ ap (λ o. some_joined (option_map (map (ranged mode e conditions name names d gens env)) o)) h

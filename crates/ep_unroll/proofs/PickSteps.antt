@@ -8,26 +8,25 @@ use Rattle.std.proofs.lemmas.Int.{ints}
 use Rattle.std.proofs.lemmas.List.{length-append, map-append}
 use Rattle.std.proofs.lemmas.List.Elements.{All-append}
 use Rattle.ep_base.proofs.Ascending.{ascending_cons, ascending_head, ascending_tail, first_of}
-use Rattle.ep_base.proofs.Small.{map_is, some_is}
+use Rattle.ep_base.proofs.Small.{some_is}
 use Rattle.ep_base.specs.Numbers.{same_numbers}
 use Rattle.ep_base.specs.Reads.{picked}
 use Rattle.ep_base.specs.Runs.{IsAscending}
 use Rattle.ep_ground.specs.Nodes as node
 use Rattle.ep_ground.specs.Nodes.{GroundNode}
-use Rattle.ep_ground.specs.Terms.{node_value, term_value}
+use Rattle.ep_ground.specs.Terms.{term_value}
 use Rattle.ep_tree.specs.Values.{Index, ValueTree, as_parts, at_index, matrix, part_at, read_value, single}
 use Rattle.ep_unroll.proofs.FormValues.{grown_value, grows_long, grows_on}
+use Rattle.ep_unroll.proofs.MatrixSteps.{values_kept}
 use Rattle.ep_unroll.proofs.MeaningSteps.{grows_none}
 use Rattle.ep_unroll.proofs.PartSteps.{Leads, block_leads}
+use Rattle.ep_unroll.proofs.TruthSteps.{length_mapped, no_less}
 use Rattle.ep_unroll.specs.Blocks.{block_under}
-use Rattle.ep_unroll.specs.Growing.{Grows, Puts}
+use Rattle.ep_unroll.specs.Growing.{Grows}
 use Rattle.ep_unroll.specs.Picks.{AreEntries, AreRead, filled_in, look_up, open_terms}
 use Rattle.ep_unroll.specs.Readings.{cells_value}
 use Rattle.ep_unroll.specs.declared.slots.Slot.{Slot}
 use Rattle.ep_unroll.specs.declared.slots.Slot.TheVariants.{At, Open}
-
-no_less : (k : ℕ) → k < 0 → ⊥
-no_less k less = omega (arith, less)
 
 -- ---- what is found under keys
 
@@ -133,7 +132,7 @@ entries_none old new ss value keys ts same none nothing h = record {
   );
 }
 
-one_read : (n : ℤ) (v : ValueTree) → single n ≡ v → AreRead [] v ([] ∷ []) (n ∷ [])
+pub one_read : (n : ℤ) (v : ValueTree) → single n ≡ v → AreRead [] v ([] ∷ []) (n ∷ [])
 unfolding look_up same_numbers filled_in open_terms read_value
 one_read n v is = record {
   long = refl;
@@ -143,49 +142,6 @@ one_read n v is = record {
     by : (js : List ℤ) → length js ≡ 0 → read_value (filled_in [] js) v ≡ option_map single (look_up ([] ∷ []) (n ∷ []) js)
     by [] h = ap Some (sym is)
     by (j ∷ js) h = absurd (omega (arith, h))
-
--- one is found where a read has no index
-pub entries_one : (old new : List GroundNode) (value : List ℤ → Option ValueTree) (keys : List (List ℤ)) (ts : List ℕ) (own : GroundNode) (t : ℕ)
-    → Puts old new own t → ((numbers : List ℤ) (f : ℕ → Option ℤ) → value numbers ≡ option_map single (node_value numbers f own)) → keys ≡ [] ∷ [] → ts ≡ t ∷ []
-    → AreEntries old new [] value keys ts
-entries_one old new value keys ts own t put is one alone = record {
-  grows = put.grows;
-  known = subst (All (λ u. u < length new)) (sym alone) (λ k d less. by k d less);
-  values = λ numbers v e.
-      let p = map_is single (node_value numbers (term_value new numbers) own) v (sym (is numbers (term_value new numbers)) ∙ e) in (
-        p.0 ∷ [],
-        ap (map (term_value new numbers)) alone ∙ ap (λ o. o ∷ []) (put.value numbers ∙ p.1),
-        subst (λ ks. AreRead [] v ks (p.0 ∷ [])) (sym one) (one_read p.0 v p.2),
-      );
-}
-  where
-    by : (k : ℕ) (d : ℕ) → k < 1 → get_or (t ∷ []) k d < length new
-    by zero d less = put.known
-    by (suc k) d less = absurd (omega (arith, less))
-
--- a term that was there
-pub entries_term : (nodes : List GroundNode) (value : List ℤ → Option ValueTree) (ss : List Slot) (keys : List (List ℤ)) (ts : List ℕ) (t : ℕ)
-    → t < length nodes → ((numbers : List ℤ) → value numbers ≡ option_map single (term_value nodes numbers t)) → ss ≡ [] → keys ≡ [] ∷ [] → ts ≡ t ∷ [] → AreEntries nodes nodes ss value keys ts
-entries_term nodes value ss keys ts t h is none one alone =
-    subst (λ l. AreEntries nodes nodes l value keys ts) (sym none) (record {
-      grows = grows_none nodes nodes refl;
-      known = subst (All (λ u. u < length nodes)) (sym alone) (λ k d less. by k d less);
-      values = λ numbers v e.
-          let p = map_is single (term_value nodes numbers t) v (sym (is numbers) ∙ e) in (
-            p.0 ∷ [],
-            ap (map (term_value nodes numbers)) alone ∙ ap (λ o. o ∷ []) p.1,
-            subst (λ ks. AreRead [] v ks (p.0 ∷ [])) (sym one) (one_read p.0 v p.2),
-          );
-    })
-  where
-    by : (k : ℕ) (d : ℕ) → k < 1 → get_or (t ∷ []) k d < length nodes
-    by zero d less = h
-    by (suc k) d less = absurd (omega (arith, less))
-
--- the value of a cell
-pub cell_is : (domains : List (List ℤ)) (first : ℕ) → domains ≡ [] → (numbers : List ℤ) (f : ℕ → Option ℤ) → cells_value numbers domains first ≡ option_map single (node_value numbers f (node.cell first))
-unfolding cells_value node_value
-cell_is domains first none numbers f = ap (λ ds. cells_value numbers ds first) none
 
 -- ---- the part with an index
 
@@ -213,18 +169,6 @@ pub entries_not_at : (old : List GroundNode) (i : ℤ) (rest : List Slot) (value
 unfolding filled_in open_terms
 entries_not_at old i rest value keys ts none nothing h =
     entries_none old old (At i ∷ rest) value keys ts refl none nothing (λ numbers v e js few. h numbers v e (filled_in rest js))
-
--- a number has no part
-pub entries_of_number : (old : List GroundNode) (t : ℕ) (rest : List Slot) (value : List ℤ → Option ValueTree) (keys : List (List ℤ)) (ts : List ℕ) → keys ≡ [] → ts ≡ []
-    → ((numbers : List ℤ) (v : ValueTree) → value numbers ≡ Some v → (n : ℤ) × (v ≡ single n))
-    → AreEntries old old (Open t ∷ rest) value keys ts
-unfolding filled_in open_terms read_value
-entries_of_number old t rest value keys ts none nothing h =
-    entries_none old old (Open t ∷ rest) value keys ts refl none nothing (λ numbers v e js few. by js few v (h numbers v e))
-  where
-    by : (js : List ℤ) → length js ≡ suc (length (open_terms rest)) → (v : ValueTree) → (n : ℤ) × (v ≡ single n) → read_value (filled_in (Open t ∷ rest) js) v ≡ None
-    by [] few v h = absurd (omega (arith, few))
-    by (j ∷ js) few v h = ap (read_value (at_index j ∷ filled_in rest js)) h.1
 
 cells_leads : (numbers : List ℤ) (first : ℕ) (domains : List (List ℤ)) (i : ℤ) (v : ValueTree) (k : ℕ) (inner : List (List ℤ)) → cells_value numbers domains first ≡ Some v
     → Some (k, inner) ≡ block_under first domains i → (is : List Index) → (w : ValueTree) × (cells_value numbers inner k ≡ Some w) × (read_value (at_index i ∷ is) v ≡ read_value is w)
@@ -303,16 +247,6 @@ each_begin old rest own left all here keys ts up same is none nothing = record {
   );
 }
 
-terms_kept : (mid new : List GroundNode) (numbers : List ℤ) (ts : List ℕ) → Grows mid new → All (λ t. t < length mid) ts → map (term_value new numbers) ts ≡ map (term_value mid numbers) ts
-terms_kept mid new numbers [] g known = refl
-terms_kept mid new numbers (t ∷ ts) g known =
-    ap (λ x. x ∷ map (term_value new numbers) ts) (grown_value mid new numbers t g (known 0 t (omega arith)))
-    ∙ ap (λ xs. term_value mid numbers t ∷ xs) (terms_kept mid new numbers ts g (λ k d less. known (suc k) d (omega (arith, less))))
-
-length_mapped : {A B : Type 0} (f : A → B) (xs : List A) → length (map f xs) ≡ length xs
-length_mapped f [] = refl
-length_mapped f (x ∷ xs) = ap suc (length_mapped f xs)
-
 -- one part more
 next_found : (rest : List Slot) (x : ℤ) (behind : List ℤ) (u : ValueTree) (vs : List ValueTree) (ks : List (List ℤ)) (ys : List ℤ) (found : Option ValueTree) (j : ℤ) (js : List ℤ)
     → IsAscending (x ∷ behind) → read_value (filled_in rest js) u ≡ option_map single (look_up ks ys js)
@@ -359,7 +293,7 @@ each_more old mid new rest own left behind x all here next one keys more ks ts u
         p.1 ++ w.0,
         q.3,
         ap (map (term_value new numbers)) put ∙ map-append (term_value new numbers) ts us
-            ∙ ap (λ l. l ++ map (term_value new numbers) us) (terms_kept mid new numbers ts part.grows so.known ∙ p.3)
+            ∙ ap (λ l. l ++ map (term_value new numbers) us) (values_kept mid new numbers ts part.grows so.known ∙ p.3)
             ∙ ap (λ l. map Some p.1 ++ l) w.1 ∙ sym (map-append Some p.1 w.0),
         longer p.1 w.0 p.4 read.long,
         λ j js few.
@@ -413,10 +347,3 @@ each_done old new t rest own left all here value keys ts so none opened = record
             ∙ else_none (option_map single (look_up keys p.1 (j ∷ js)))),
       );
 }
-
--- cells without an index domain are one number
-pub number_of_cell : (domains : List (List ℤ)) (first : ℕ) (numbers : List ℤ) (v : ValueTree) → domains ≡ [] → cells_value numbers domains first ≡ Some v → (n : ℤ) × (v ≡ single n)
-unfolding cells_value
-number_of_cell domains first numbers v none e =
-    let p = map_is single (slice_get numbers first) v (ap (λ ds. cells_value numbers ds first) (sym none) ∙ e) in
-    (p.0, sym p.2)

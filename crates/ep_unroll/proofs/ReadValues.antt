@@ -22,6 +22,7 @@ use Rattle.ep_unroll.proofs.GrownParts.{terms_kept, worth_kept}
 use Rattle.ep_unroll.proofs.MatrixSteps.{values_kept}
 use Rattle.ep_unroll.proofs.SlotSteps.{all_some, indices_listed, read_is}
 use Rattle.ep_unroll.proofs.TypedReadings.{truth_is}
+use Rattle.ep_unroll.proofs.PartSteps.{is_worth}
 use Rattle.ep_unroll.specs.Blocks.{one_index}
 use Rattle.ep_unroll.specs.Growing.{Grows}
 use Rattle.ep_unroll.specs.Lefts.{IsLeft, LeftMeans}
@@ -170,7 +171,7 @@ left_means n env nodes mid new m indices known x ss is count others counted mean
   value = λ r.
       let enough : count ≤ length r.numbers = subst (λ k. k ≤ length r.numbers) counted r.reads.long in
       let v = some_true (worth mid r.numbers known) (sym (needed.values r.numbers enough) ∙ ap (λ l. is_some (numbers_of_terms new r.numbers l)) none) in
-      left new r.numbers v.0 (worth_kept mid new r.numbers known needed.grows meant.known ∙ v.1)
+      is_worth new r.numbers x (read_value is v.0) (left new r.numbers v.0 (worth_kept mid new r.numbers known needed.grows meant.known ∙ v.1))
       ∙ sym
       (ap (option_and_then (λ js. option_and_then (read_value js) (evaluate n.mode r.values m))) (ap all_defined (sym (slots.values r) ∙ decided mid r.numbers) ∙ all_defined_are is)
       ∙ ap (option_and_then (read_value is)) (sym (meant.value r) ∙ v.1));

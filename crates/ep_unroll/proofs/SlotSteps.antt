@@ -254,9 +254,6 @@ without_done n env nodes mid p m e indices ty (Err f) tree typed grows none is k
 
 -- ---- the terms of places, one after another
 
-pub opens_begin : (ss : List Slot) (ts : List ℕ) → ts ≡ [] → ts ++ open_terms ss ≡ open_terms ss
-opens_begin ss ts none = ap (λ us. us ++ open_terms ss) none
-
 pub opens_more : (ss : List Slot) (k : ℕ) (s d : Slot) (t : ℕ) (ts more : List ℕ) → k < length ss → s ≡ get_or ss k d → s ≡ Open t → ts ++ open_terms (drop k ss) ≡ open_terms ss → more ≡ ts ++ t ∷ []
     → more ++ open_terms (drop (k + 1) ss) ≡ open_terms ss
 unfolding open_terms

@@ -14,15 +14,16 @@ use Rattle.ep_ground.specs.Terms as ground
 use Rattle.ep_ground.specs.Terms.{node_value, term_value, weighed, truth as ground_truth}
 use Rattle.ep_tree.proofs.EvaluationEquations.{evaluate-chain}
 use Rattle.ep_tree.specs.Environments.{Env}
-use Rattle.ep_tree.specs.Evaluation.{all_numbers, all_true, any_true, domain_values, number_in, number_value, quantified_value, truth_in, undefined_truth}
+use Rattle.ep_tree.specs.Evaluation.{all_numbers, all_true, any_true, domain_values, evaluate, number_in, number_value, quantified_value, truth_in, undefined_truth}
 use Rattle.ep_tree.specs.Trees.{Terms, chain}
 use Rattle.ep_tree.specs.Values.{ValueTree, all_defined, single}
 use Rattle.ep_tree.specs.Views.{domain_tree, expr_tree}
 use Rattle.ep_tree.specs.declared.syntax.QuantOp.{QuantOp}
 use Rattle.ep_tree.specs.declared.values.Mode.{Mode}
-use Rattle.ep_eval.proofs.Instances.{quantified_none, quantified_some}
-use Rattle.ep_eval.specs.Instances.{instance_value, quantified_tree}
-use Rattle.ep_eval.specs.declared.gathering.Quantifier.{Quantifier}
+use Rattle.ep_eval.proofs.Instances.{quantified_by}
+use Rattle.ep_eval.specs.Instances.{instance_value}
+use Rattle.ep_forms.specs.Forms.{quantified_tree}
+use Rattle.ep_forms.specs.declared.forms.Quantifier.{Quantifier}
 use Rattle.ep_unroll.proofs.FormValues.{grows_on, grown_value, there_defined, truth_told, untold_is}
 use Rattle.ep_unroll.proofs.MeaningSteps.{grows_none}
 use Rattle.ep_unroll.proofs.TruthSteps.{list_there, told_both}
@@ -103,6 +104,12 @@ maps_twice : {A B C : Type 0} (f : B → C) (g : A → B) (xs : List A) → map 
 maps_twice f g [] = refl
 maps_twice f g (x ∷ xs) = ap (λ ys. f (g x) ∷ ys) (maps_twice f g xs)
 
+-- the value of a quantifier by those of its instances
+by_instances : (mode : Mode) (env : Env) (p : Place) (q : Quantifier) (name : Name) (rest : List Name) (o : Option (List ℤ)) → domain_values mode env (domain_tree q.domain.now) ≡ o
+    → evaluate mode env (quantified_tree p q (name ∷ rest)) ≡ quantified_value mode q.op (option_map (map (instance_value mode env p q name rest)) o)
+by_instances mode env p q name rest o h =
+    quantified_by mode env p q.op name rest (domain_tree q.domain.now) (expr_tree q.body.now) ∙ ap (λ x. quantified_value mode q.op (option_map (map (instance_value mode env p q name rest)) x)) h
+
 -- what the instances of a quantifier make of its node
 quantified_is : (n : Numbering) (cells : Env) (nodes mid new : List GroundNode) (p : Place) (q : Quantifier) (op : QuantOp) (name : Name) (rest : List Name) (ns : List ℤ) (ts : List ℕ) (t : ℕ) (own : GroundNode)
     (whole : List (Option ℤ) → Option ℤ)
@@ -114,7 +121,7 @@ quantified_is n cells nodes mid new p q op name rest ns ts t own whole is one ot
   grows = grows_on nodes mid new h.grows put.grows;
   known = put.known;
   value = λ r.
-      quantified_some n.mode r.values p q.op name rest (domain_tree q.domain.now) (expr_tree q.body.now) ns (domain r)
+      by_instances n.mode r.values p q name rest (Some ns) (domain r)
       ∙ ap (λ o. quantified_value n.mode o (Some (map (instance_value n.mode r.values p q name rest) ns))) is
       ∙ one (map (instance_value n.mode r.values p q name rest) ns)
       ∙ ap (λ os. option_map single (whole os))
@@ -133,7 +140,7 @@ quantified_truth : (n : Numbering) (cells : Env) (nodes mid new : List GroundNod
     → IsTermOf n cells nodes new (quantified_tree p q (name ∷ rest)) t
 quantified_truth n cells nodes mid new p q op name rest ns ts us t own k is one other domain h needed j =
     truth_told n cells nodes mid new (quantified_tree p q (name ∷ rest)) ts us t own (λ r. option_map k (all_numbers (instances r))) h.grows needed j
-    (λ r. quantified_some n.mode r.values p q.op name rest (domain_tree q.domain.now) (expr_tree q.body.now) ns (domain r)
+    (λ r. by_instances n.mode r.values p q name rest (Some ns) (domain r)
     ∙ ap (λ o. quantified_value n.mode o (Some (instances r))) is ∙ one (instances r))
     (λ r. told_both n.mode (option_map k (all_numbers (instances r))) (term_value j.between r.numbers j.own)
     (j.puts.value r.numbers ∙ other r.numbers (term_value j.between r.numbers)
@@ -197,7 +204,7 @@ nothing_is n cells old new p q op name rest t own o is one other domain put = re
   grows = put.grows;
   known = put.known;
   value = λ r.
-      quantified_none n.mode r.values p q.op name rest (domain_tree q.domain.now) (expr_tree q.body.now) (domain r)
+      by_instances n.mode r.values p q name rest None (domain r)
       ∙ ap (λ k. quantified_value n.mode k None) is ∙ one
       ∙ ap (option_map single) (sym (put.value r.numbers ∙ other r.numbers (term_value new r.numbers)));
 }
@@ -209,5 +216,5 @@ pub nothing_told : (n : Numbering) (cells : Env) (old new : List GroundNode) (p 
     → HasNumber old new (λ numbers. number_in (undefined_truth mode)) t → IsTermOf n cells old new (quantified_tree p q (name ∷ rest)) t
 nothing_told n cells old new p q op name rest mode t is same one domain =
     untold_is n cells old old new (quantified_tree p q (name ∷ rest)) mode t same (grows_none old old refl)
-    (λ r. quantified_none n.mode r.values p q.op name rest (domain_tree q.domain.now) (expr_tree q.body.now) (domain r)
+    (λ r. by_instances n.mode r.values p q name rest None (domain r)
     ∙ ap (λ k. quantified_value n.mode k None) is ∙ one)

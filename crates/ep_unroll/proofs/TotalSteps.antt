@@ -8,6 +8,7 @@ use Rattle.ep_base.specs.Options.{on_both}
 use Rattle.ep_base.specs.Reads.{all_there, weighted_sum}
 use Rattle.ep_ground.specs.Nodes as node
 use Rattle.ep_ground.specs.Terms.{node_value, truth, term_values_of, weighed}
+use Rattle.ep_unroll.proofs.NeedSteps.{some_there}
 
 pub some_total : {A : Type 0} (o : Option A) (x : A) → o ≡ Some x → IsSome o
 some_total o x h = subst IsSome (sym h) (it_is x)
@@ -28,20 +29,16 @@ cell_total numbers k d h = some_total (slice_get numbers k) (get_or numbers k d)
 
 -- ---- nodes that have a value where their parts have
 
-some_of : {A : Type 0} (o : Option A) → IsSome o → (x : A) × (o ≡ Some x)
-some_of None h = absurd (search rules)
-some_of (Some x) h = (x, refl)
-
 mapped_total : {A B : Type 0} (f : A → B) (o : Option A) → IsSome o → IsSome (option_map f o)
 mapped_total f o h =
-    let p = some_of o h in some_total (option_map f o) (f p.0) (ap (option_map f) p.1)
+    let p = some_there o h in some_total (option_map f o) (f p.0) (ap (option_map f) p.1)
 
 weighed_total : (f : ℕ → Option ℤ) (parts : List (ℤ × ℕ)) → All (λ part. IsSome (f part.1)) parts → IsSome (weighed f parts)
 unfolding weighed on_both
 weighed_total f [] h = search rules
 weighed_total f (p ∷ parts) h =
-    let x = some_of (f p.1) (h 0 p (omega arith)) in
-    let xs = some_of (weighed f parts) (weighed_total f parts (λ k d less. h (suc k) d (omega (arith, less)))) in
+    let x = some_there (f p.1) (h 0 p (omega arith)) in
+    let xs = some_there (weighed f parts) (weighed_total f parts (λ k d less. h (suc k) d (omega (arith, less)))) in
     some_total (on_both (f p.1) (weighed f parts) (λ y rest. Some ((p.0, y) ∷ rest))) ((p.0, x.0) ∷ xs.0)
     (ap (λ o. option_and_then (λ y. option_and_then (λ rest. Some ((p.0, y) ∷ rest)) (weighed f parts)) o) x.1 ∙ ap (option_and_then (λ rest. Some ((p.0, x.0) ∷ rest))) xs.1)
 
@@ -52,8 +49,8 @@ sum_total numbers f c parts h = mapped_total (λ ps. c +ℤ weighted_sum ps) (we
 both_total : (g : ℤ → ℤ → ℤ) (a b : Option ℤ) → IsSome a → IsSome b → IsSome (on_both a b (λ x y. Some (g x y)))
 unfolding on_both
 both_total g a b h k =
-    let x = some_of a h in
-    let y = some_of b k in
+    let x = some_there a h in
+    let y = some_there b k in
     some_total (on_both a b (λ u v. Some (g u v))) (g x.0 y.0)
     (ap (option_and_then (λ u. option_and_then (λ v. Some (g u v)) b)) x.1 ∙ ap (option_and_then (λ v. Some (g x.0 v))) y.1)
 
@@ -79,8 +76,8 @@ divides x (negsuc n) h = (counted.floor_over (neg_ℤ x) (suc n), refl)
 divided_total : (g : ℤ → ℤ → Option ℤ) (a b : Option ℤ) (k : ℤ) → ((x : ℤ) → IsSome (g x k)) → IsSome a → b ≡ Some k → IsSome (on_both a b g)
 unfolding on_both
 divided_total g a b k h told is =
-    let x = some_of a told in
-    let q = some_of (g x.0 k) (h x.0) in
+    let x = some_there a told in
+    let q = some_there (g x.0 k) (h x.0) in
     some_total (on_both a b g) q.0 (ap (option_and_then (λ u. option_and_then (g u) b)) x.1 ∙ ap (option_and_then (g x.0)) is ∙ q.1)
 
 pub quotient_total : (numbers : List ℤ) (f : ℕ → Option ℤ) (a b : ℕ) (k : ℤ) → k ≢ pos 0 → IsSome (f a) → f b ≡ Some k → IsSome (node_value numbers f (node.quotient a b))
@@ -97,7 +94,7 @@ listed_total : (f : ℕ → Option ℤ) (ts : List ℕ) → All (λ t. IsSome (f
 unfolding all_there
 listed_total f [] h = ([], refl, refl)
 listed_total f (t ∷ ts) h =
-    let p = some_of (f t) (h 0 t (omega arith)) in
+    let p = some_there (f t) (h 0 t (omega arith)) in
     let q = listed_total f ts (λ k d less. h (suc k) d (omega (arith, less))) in (
       p.0 ∷ q.0,
       ap (option_and_then (λ n. option_map (λ ns. n ∷ ns) (all_there (map f ts)))) p.1 ∙ ap (option_map (λ ns. p.0 ∷ ns)) q.1,
@@ -111,7 +108,7 @@ chosen_total g f ts h some told =
   where
     by : (xs : List ℤ) → all_there (map f ts) ≡ Some xs → 0 < length xs → IsSome (option_and_then g (all_there (map f ts)))
     by [] is more = absurd (omega (arith, more))
-    by (x ∷ xs) is more = let q = some_of (g (x ∷ xs)) (h x xs) in some_total (option_and_then g (all_there (map f ts))) q.0 (ap (option_and_then g) is ∙ q.1)
+    by (x ∷ xs) is more = let q = some_there (g (x ∷ xs)) (h x xs) in some_total (option_and_then g (all_there (map f ts))) q.0 (ap (option_and_then g) is ∙ q.1)
 
 pub least_total : (numbers : List ℤ) (f : ℕ → Option ℤ) (ts : List ℕ) → 0 < length ts → All (λ t. IsSome (f t)) ts → IsSome (node_value numbers f (node.least ts))
 unfolding node_value term_values_of counted.least_of

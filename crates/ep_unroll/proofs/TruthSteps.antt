@@ -22,7 +22,7 @@ use Rattle.ep_unroll.specs.Truths.{needed_in}
 
 -- ---- what a truth value needs
 
-no_less : (k : ℕ) → k < 0 → ⊥
+pub no_less : (k : ℕ) → k < 0 → ⊥
 no_less k less = omega (arith, less)
 
 pub none_needed : (nodes : List GroundNode) (count : ℕ) (mode : Mode) (ts us : List ℕ) → mode ≡ Mode.Relational → us ≡ [] → ArePartial nodes count (needed_in mode ts) us

@@ -6,6 +6,7 @@ use Rattle.std.specs.Ordering.{int_eq}
 use Rattle.std.proofs.lemmas.Bool.Decides.{Decides-int_eq}
 use Rattle.ep_base.specs.Numbers.{is_one, of_bool}
 use Rattle.ep_base.specs.declared.names.Name.{Name}
+use Rattle.ep_size.proofs.FreeParts.{and_other}
 use Rattle.ep_tree.proofs.TypedEvaluation.{domain_typed, put_typed, value_typed}
 use Rattle.ep_tree.specs.Agreement.{Agree, AgreeOn}
 use Rattle.ep_tree.specs.Environments.{Bound, Env, context_of, has_cells, has_domain, has_value, scalar_in, with_number}
@@ -21,10 +22,6 @@ use Rattle.ep_unroll.specs.Readings.{Numbering, Reading}
 and_left : (a b : Bool) → (a && b) ≡ true → a ≡ true
 and_left true b h = refl
 and_left false b h = absurd cc
-
-and_right : (a b : Bool) → (a && b) ≡ true → b ≡ true
-and_right true b h = h
-and_right false b h = absurd cc
 
 -- ---- decision variables
 
@@ -79,7 +76,7 @@ number_next n env d left behind k s h cut scalar r =
 pub numbers_behind : (n : Numbering) (env : Env) (d : DomainTree) (left behind : List ℤ) (k : ℤ) → AreOfScalar n env d left → left ≡ k ∷ behind → AreOfScalar n env d behind
 unfolding AreOfScalar
 numbers_behind n env d left behind k h cut r =
-    and_right (is_number_of (scalar_in env d) k) (list_all (is_number_of (scalar_in env d)) behind) (subst (λ l. list_all (is_number_of (scalar_in env d)) l ≡ true) cut (h r))
+    and_other (is_number_of (scalar_in env d) k) (list_all (is_number_of (scalar_in env d)) behind) (subst (λ l. list_all (is_number_of (scalar_in env d)) l ≡ true) cut (h r))
 
 number_bound : (s : Scalar) (k : ℤ) → is_number_of s k ≡ true → IsTypedBound (Some (has_value (of_scalar s) (single k)))
 unfolding IsTypedBound of_scalar

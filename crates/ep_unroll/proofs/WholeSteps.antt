@@ -23,6 +23,7 @@ use Rattle.ep_unroll.proofs.LeftSteps.{all_there_are, values_of_all}
 use Rattle.ep_unroll.proofs.MatrixSteps.{values_kept}
 use Rattle.ep_unroll.proofs.MeaningSteps.{grows_none}
 use Rattle.ep_unroll.proofs.ReadValues.{all_defined_are}
+use Rattle.ep_unroll.proofs.PartSteps.{is_worth}
 use Rattle.ep_unroll.specs.Growing.{Grows, Puts}
 use Rattle.ep_unroll.specs.Lefts.{IsLeft, LeftMeans}
 use Rattle.ep_unroll.specs.Meanings.{AreTerms, Means, worth}
@@ -47,6 +48,15 @@ pub behind_begin : (left : List GroundNode → List ℤ → List (Option ValueTr
 behind_begin left has first xs one first_has = record {
   worths = λ nodes numbers. ap (λ l. worths nodes numbers l ++ left nodes numbers) one;
   terms = λ count h. subst (HaveTerms count) (sym one) (have_one count first (first_has count h));
+}
+
+-- the same with none passed
+pub behind_none : (whole left : List GroundNode → List ℤ → List (Option ValueTree)) (has : ℕ → Type 0) (xs : List Unrolled) → xs ≡ []
+    → ((nodes : List GroundNode) (numbers : List ℤ) → left nodes numbers ≡ whole nodes numbers) → Behind whole left has xs
+unfolding HaveTerms
+behind_none whole left has xs none same = record {
+  worths = λ nodes numbers. ap (λ l. worths nodes numbers l ++ left nodes numbers) none ∙ same nodes numbers;
+  terms = λ count h. subst (HaveTerms count) (sym none) tt;
 }
 
 pub behind_more : (whole left later : List GroundNode → List ℤ → List (Option ValueTree)) (has : ℕ → Type 0) (x : Unrolled) (xs more : List Unrolled) → Behind whole left has xs → more ≡ xs ++ x ∷ []
@@ -153,7 +163,7 @@ left_whole n env nodes old mid new m indices known left x ss is count others cou
       let enough : count ≤ length r.numbers = subst (λ k. k ≤ length r.numbers) counted r.reads.long in
       whole.value r.numbers
       ∙ go (numbers_of_terms mid r.numbers others) (worth old r.numbers known) (worth mid r.numbers left) (needed.values r.numbers enough)
-      (λ v e. leaves mid r.numbers v (worth_kept old mid r.numbers known needed.grows meant.known ∙ e))
+      (λ v e. is_worth mid r.numbers left (read_value is v) (leaves mid r.numbers v (worth_kept old mid r.numbers known needed.grows meant.known ∙ e)))
       ∙ ap (option_and_then (read_value is)) (meant.value r)
       ∙ sym (ap (option_and_then (λ js. option_and_then (read_value js) (evaluate n.mode r.values m))) (ap all_defined (sym (slots.values r) ∙ decided old r.numbers) ∙ all_defined_are is));
 }
@@ -208,3 +218,14 @@ pub known_parts : (old : List GroundNode) (numbers : List ℤ) (x known : Unroll
     → option_map (λ vs. matrix js.items (as_parts vs)) (all_defined (worth old numbers x ∷ worths old numbers later)) ≡ worth old numbers known
 known_parts old numbers x known js xs later is cut =
     ap (λ l. parts_worth js.items old numbers l) (sym cut) ∙ sym (matrix_worth old numbers js xs) ∙ ap (worth old numbers) (sym is)
+
+-- cells as the parts of a matrix
+pub cells_matrix : (own : List ℤ) (inner : List (List ℤ)) (first : ℕ) (left : List ℤ) (rest : List GroundNode → List ℤ → List (Option ValueTree)) (has : ℕ → Type 0) (is : Vec ℤ Global) (xs : Vec Unrolled Global)
+    → left ≡ [] → own ≡ is.items ++ left → Behind (λ nodes numbers. each_from (cells_value numbers inner) (cell_count inner) first own) rest has xs.items
+    → ((nodes : List GroundNode) (numbers : List ℤ) → rest nodes numbers ≡ []) → (nodes : List GroundNode) (numbers : List ℤ) → worth nodes numbers (Matrix is xs) ≡ cells_value numbers (own ∷ inner) first
+unfolding cells_value
+cells_matrix own inner first left rest has is xs none passed so ended nodes numbers =
+    let whole : is.items ≡ own = sym (append-nil is.items) ∙ ap (λ l. is.items ++ l) (sym none) ∙ sym passed in
+    matrix_worth nodes numbers is xs ∙ ap (λ l. parts_worth l nodes numbers xs.items) whole
+    ∙ ap (λ os. option_map (λ vs. matrix own (as_parts vs)) (all_defined os))
+    (behind_all (λ ns js. each_from (cells_value js inner) (cell_count inner) first own) rest has xs.items so ended nodes numbers)

@@ -6,7 +6,7 @@ use Rattle.ep_tree.specs.Evaluation.{evaluate}
 use Rattle.ep_tree.specs.Trees.{ExprTree}
 use Rattle.ep_tree.specs.Values.{Index, ValueTree, all_defined, read_value}
 use Rattle.ep_tree.specs.declared.syntax.Expr.{Expr}
-use Rattle.ep_unroll.specs.Blocks.{one_index}
+use Rattle.ep_unroll.specs.Blocks.{IsWorth, one_index}
 use Rattle.ep_unroll.specs.Growing.{Grows}
 use Rattle.ep_unroll.specs.Meanings.{AreTerms, worth}
 use Rattle.ep_unroll.specs.Readings.{Numbering, Reading}
@@ -14,7 +14,7 @@ use Rattle.ep_unroll.specs.declared.unrolled.Unrolled.{Unrolled}
 
 -- What was unrolled has what indices leave of a value, wherever that is there.
 abbrev pub IsLeft : (List GroundNode → List ℤ → Option ValueTree) → List Index → Unrolled → Type 0
-IsLeft value is x = (nodes : List GroundNode) (numbers : List ℤ) (v : ValueTree) → value nodes numbers ≡ Some v → worth nodes numbers x ≡ read_value is v
+IsLeft value is x = (nodes : List GroundNode) (numbers : List ℤ) (v : ValueTree) → value nodes numbers ≡ Some v → IsWorth nodes numbers x (read_value is v)
 
 -- What was unrolled has what the indices of a read leave of an expression's value, whatever values decision variables have.
 pub record LeftMeans (n : Numbering) (cells : Env) (old new : List GroundNode) (m : ExprTree) (indices : List (Option Expr)) (x : Unrolled) : Type 0 where

@@ -7,7 +7,6 @@ pub mod Grounds
 pub mod Growing
 pub mod Kinds
 pub mod Lefts
-pub mod Lists
 pub mod Meanings
 pub mod Needs
 pub mod Numbers

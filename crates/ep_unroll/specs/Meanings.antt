@@ -12,7 +12,7 @@ use Rattle.ep_tree.specs.Trees.{ExprTree, ExprTrees}
 use Rattle.ep_tree.specs.Values.{ValueTree, all_defined, as_parts, matrix, single}
 use Rattle.ep_eval.specs.Helds.{seen_held}
 use Rattle.ep_eval.specs.Instances.{instance_value}
-use Rattle.ep_eval.specs.declared.gathering.Quantifier.{Quantifier}
+use Rattle.ep_forms.specs.declared.forms.Quantifier.{Quantifier}
 use Rattle.ep_unroll.specs.Growing.{Grows}
 use Rattle.ep_unroll.specs.Readings.{Numbering, Reading, cells_value}
 use Rattle.ep_unroll.specs.declared.unrolled.Unrolled.{Unrolled, Number, Cells, Fixed, Matrix', Row_of-Unrolled, end_of-Unrolled, more_of-Unrolled}

@@ -1,25 +1,19 @@
--- ListsTerms of parts that were unrolled, and terms that are put behind others.
+-- Lists of parts that were unrolled, and the terms of their scalars.
 use Rattle.std.specs.Prelude.{◌≡◌, ℕ, ◌<◌, List, [], ◌∷◌, ◌++◌, map, ℤ, Option, Some, None, length, option_and_then, option_map}
 use Rattle.std.specs.List.{All}
 use Rattle.std.specs.declared.alloc.Global.{Global}
 use Rattle.std.specs.declared.vec.Vec.{Vec}
 use Rattle.ep_base.specs.Options.{map_both}
 use Rattle.ep_base.specs.Reads.{all_there}
-use Rattle.ep_base.specs.declared.names.Name.{Name}
 use Rattle.ep_ground.specs.Nodes.{GroundNode}
 use Rattle.ep_ground.specs.Terms.{term_value}
-use Rattle.ep_tree.specs.Environments.{Env, scalar_in, with_number}
+use Rattle.ep_tree.specs.Environments.{Env}
 use Rattle.ep_tree.specs.Evaluation.{values_of}
-use Rattle.ep_tree.specs.Trees.{ExprTrees, Generators, generator_and}
+use Rattle.ep_tree.specs.Trees.{ExprTrees}
 use Rattle.ep_tree.specs.Values.{ValueTree, all_defined}
-use Rattle.ep_tree.specs.Views.{domain_tree, expr_tree, expr_trees, generators_of}
-use Rattle.ep_tree.specs.declared.values.Mode.{Mode}
-use Rattle.ep_eval.specs.Generating.{generated_values}
 use Rattle.ep_unroll.specs.Growing.{Grows}
 use Rattle.ep_unroll.specs.Meanings.{AreTerms, worth}
 use Rattle.ep_unroll.specs.Readings.{Numbering, Reading}
-use Rattle.ep_unroll.specs.declared.comprehensions.Listing.{Listing}
-use Rattle.ep_unroll.specs.declared.comprehensions.Ranging.{Ranging}
 use Rattle.ep_unroll.specs.declared.unrolled.Unrolled.{Unrolled}
 
 -- each term of some parts has a node
@@ -31,14 +25,11 @@ HaveTerms count (x ∷ xs) = AreTerms count x × HaveTerms count xs
 abbrev pub worths : List GroundNode → List ℤ → List Unrolled → List (Option ValueTree)
 worths nodes numbers xs = map (worth nodes numbers) xs
 
--- Terms are put behind others. They have scalars, whatever numbers the cells have, and where there are none one of them
--- has no value.
-pub record AddsScalars (old new : List GroundNode) (before after : List ℕ) (scalars : List ℤ → Option (List ℤ)) : Type 0 where
+-- Terms have scalars, whatever numbers the cells have, and where there are none one of them has no value.
+pub record HaveScalars (old new : List GroundNode) (scalars : List ℤ → Option (List ℤ)) (ts : List ℕ) : Type 0 where
   pub grows : Grows old new
-  pub more : List ℕ
-  pub whole : after ≡ before ++ more
-  pub known : All (λ t. t < length new) more
-  pub values : (numbers : List ℤ) → all_there (map (term_value new numbers) more) ≡ scalars numbers
+  pub known : All (λ t. t < length new) ts
+  pub values : (numbers : List ℤ) → all_there (map (term_value new numbers) ts) ≡ scalars numbers
 
 -- Parts have the values of expressions, one for each, whatever values decision variables have.
 pub record ArePartsOf (n : Numbering) (cells : Env) (old new : List GroundNode) (es : ExprTrees) (xs : List Unrolled) : Type 0 where
@@ -66,15 +57,3 @@ pub record ListsTerms (n : Numbering) (cells : Env) (old new : List GroundNode) 
   pub known : MayHaveTerms (length old) before → MayHaveTerms (length new) after
   pub values : MayHaveTerms (length old) before → (r : Reading n cells)
       → listed_worths new r.numbers after ≡ map_both ◌++◌ (listed_worths old r.numbers before) (own r.values)
-
--- the parts that generators lead to
-abbrev pub parts_of : Mode → Listing → Generators → Env → Option (List ValueTree)
-parts_of mode l gens env = generated_values mode (expr_tree l.body.now) (expr_trees l.conditions.now) gens env
-
--- some names over a domain, with the generators behind them
-abbrev pub ranging_over : Ranging → List Name → Generators
-ranging_over r names = generator_and names (domain_tree r.domain.now) (generators_of r.later.now)
-
--- the parts that there are where a name stands for a number
-abbrev pub parts_at : Mode → Env → Ranging → Name → List Name → ℤ → Option (List ValueTree)
-parts_at mode env r name rest n = parts_of mode r.listing (ranging_over r rest) (with_number name (scalar_in env (domain_tree r.domain.now)) n env)

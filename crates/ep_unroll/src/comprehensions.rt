@@ -4,7 +4,7 @@ ghost use Rattle.std.specs.Prelude.{◌≡◌, ◌++◌, ◌&&◌, ◌∷◌, []
 ghost use Rattle.ep_base.specs.Options.{map_both};
 ghost use Rattle.ep_base.specs.declared.places.Place.{Place};
 ghost use Rattle.ep_eval.specs.Generating.{generated_values};
-ghost use Rattle.ep_eval.specs.Literals.{index_at};
+ghost use Rattle.ep_forms.specs.Forms.{index_at};
 ghost use Rattle.ep_eval.specs.Scopes.{env_in, mode_in};
 ghost use Rattle.ep_ground.specs.Nodes.{GroundNode};
 ghost use Rattle.ep_tree.specs.Evaluation.{all_true, evaluate, truth_of, values_of};
@@ -19,22 +19,7 @@ use super::literals::made_matrix;
 use super::unrolled::Unrolled;
 use ep_base::Memory;
 use ep_eval::{Scope, number_of};
-use ep_tree::{Domain, Expr, Generator};
-
-/// What a comprehension lists, and under which conditions.
-#[derive(Clone, Copy)]
-pub struct Listing<'e> {
-    pub body: &'e Expr,
-    pub conditions: &'e [Expr],
-}
-
-/// What the names of a generator range over, and the generators behind it.
-#[derive(Clone, Copy)]
-pub struct Ranging<'e> {
-    pub listing: Listing<'e>,
-    pub domain: &'e Domain,
-    pub later: &'e [Generator],
-}
+use ep_tree::{Domain, Expr};
 
 /// Whether two things hold, where each is known.
 #[tactic(auto, unfolding(ep_base::specs::Options::map_both))]

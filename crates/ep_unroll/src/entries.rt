@@ -1,9 +1,9 @@
 //! The scalars among which a read of what was unrolled chooses.
 
-ghost use Rattle.std.specs.Prelude.{◌≡◌, ◌∷◌, [], ℕ, Some, IfOk, length, option_map};
-ghost use Rattle.ep_base.specs.Runs.{IsAscending};
+ghost use Rattle.std.specs.Prelude.{◌≡◌, ◌∷◌, [], ℕ, ℤ, List, None, true, IfOk, length, option_map};
+ghost use Rattle.ep_ground.specs.Nodes.{GroundNode};
+ghost use Rattle.ep_tree.specs.Evaluation.{number_in};
 ghost use Rattle.ep_tree.specs.Values.{single};
-ghost use Rattle.ep_eval.specs.Helds.{held_value, seen_held};
 ghost use Rattle.ep_unroll.specs.Meanings.{AreTerms, worth};
 ghost use Rattle.ep_unroll.specs.PartLists.{HaveTerms};
 ghost use Rattle.ep_unroll.specs.Picks.{AreEntries};
@@ -11,71 +11,19 @@ ghost use Rattle.ep_unroll.specs.PartReads as defined;
 ghost use Rattle.ep_unroll.specs.PartReads.{parts_worth};
 ghost use Rattle.ep_unroll.specs.declared.slots.Slot.TheVariants as place;
 
-use super::blocks::{Block, is_index};
-use super::chosen_values::{ascend, value_entries};
-use super::growing::put;
+use super::blocks::{Block, block_at, is_index};
+use super::chosen_values::{ascend, part_seen};
+use super::lefts::opened_seen;
 use super::listing::push_all_behind;
-use super::picks::{Entries, cell_entries, no_entries, one_entry, push_terms};
+use super::numbers::scalar_term;
+use super::picks::{Entries, no_entries, one_entry, push_terms};
+use super::reads::cells_opened;
 use super::slots::Slot;
 use super::unrolled::Unrolled;
 use ep_base::Memory;
-use ep_eval::Held;
-use ep_ground::{Arena, Node, Term};
+use ep_eval::{Held, number_of};
+use ep_ground::Arena;
 use std::alloc::Global;
-
-/// The entry of a term. Where indices are left it ends as want of memory: a number has no part.
-fn term_entry(alloc: Global, term: Term, slots: &[Slot]) -> Result<Entries, Memory>
-    ensures { IfOk result (λ es. (slots.now ≡ []) × (es.keys.items ≡ [] ∷ []) × (es.terms.items ≡ term ∷ [])) }
-{
-    match slots.split_first() {
-        Some(_) => Err(Memory),
-        None => one_entry(alloc, term),
-    }
-}
-
-/// The entry of a number. Where indices are left it ends as want of memory.
-fn constant_entry(
-    alloc: Global,
-    arena: &mut Arena,
-    number: i64,
-    slots: &[Slot],
-) -> Result<Entries, Memory>
-    ensures { IfOk result (λ es. AreEntries arena.old arena.new slots.now (λ numbers. Some (single number)) es.keys.items es.terms.items) }
-{
-    let term = put(arena, Node::Const(number))?;
-    term_entry(alloc, term, slots)
-}
-
-/// The entries of a value that is held.
-fn held_entries(
-    alloc: Global,
-    arena: &mut Arena,
-    held: &Held<'_>,
-    slots: &[Slot],
-) -> Result<Entries, Memory>
-    ensures { IfOk result (λ es. AreEntries arena.old arena.new slots.now (λ numbers. Some (held_value held.now)) es.keys.items es.terms.items) }
-{
-    match held {
-        Held::Number(number) => constant_entry(alloc, arena, *number, slots),
-        Held::Lent(value) => value_entries(alloc, arena, value, slots),
-        Held::Made(value) => value_entries(alloc, arena, value, slots),
-    }
-}
-
-/// The entries of what was evaluated; none where there is no value.
-fn seen_entries(
-    alloc: Global,
-    arena: &mut Arena,
-    seen: &Option<Held<'_>>,
-    slots: &[Slot],
-) -> Result<Entries, Memory>
-    ensures { IfOk result (λ es. AreEntries arena.old arena.new slots.now (λ numbers. seen_held seen.now) es.keys.items es.terms.items) }
-{
-    match seen {
-        Some(held) => held_entries(alloc, arena, held, slots),
-        None => Ok(no_entries(alloc)),
-    }
-}
 
 /// The part with an index, if there is one. Linear in the parts.
 pub fn part_with<'p, 'a>(
@@ -97,6 +45,64 @@ pub fn part_with<'p, 'a>(
     None
 }
 
+/// Whether nothing has a value.
+fn is_nothing(known: &Unrolled<'_>) -> bool
+    ensures { result ≡ true → (nodes : List GroundNode) → (numbers : List ℤ) → worth nodes numbers known.now ≡ None }
+{
+    match known {
+        Unrolled::Fixed(seen) => match seen {
+            Some(_) => false,
+            None => true,
+        },
+        _ => false,
+    }
+}
+
+/// Whether what was unrolled is a number, where it has a value.
+fn is_scalar(known: &Unrolled<'_>) -> bool
+    ensures { result ≡ true → (nodes : List GroundNode) → (numbers : List ℤ)
+        → worth nodes numbers known.now ≡ option_map single (number_in (worth nodes numbers known.now)) }
+{
+    match known {
+        Unrolled::Number(_) => true,
+        Unrolled::Cells(_, domains) => match domains.split_first() {
+            Some(_) => false,
+            None => true,
+        },
+        Unrolled::Fixed(seen) => number_of(seen).is_some(),
+        Unrolled::Matrix(_, _) => false,
+    }
+}
+
+/// The entry of a number. Where indices are left out it ends as want of memory.
+fn scalar_entry(alloc: Global, arena: &mut Arena, known: &Unrolled<'_>) -> Result<Entries, Memory>
+    ensures { IfOk result (λ es. AreTerms (length arena.old) known.now
+        → AreEntries arena.old arena.new [] (λ numbers. worth arena.old numbers known.now) es.keys.items es.terms.items) }
+{
+    if !is_scalar(known) {
+        return Err(Memory);
+    }
+    let term = scalar_term(arena, known)?;
+    one_entry(alloc, term)
+}
+
+/// One dimension of what was unrolled as parts, where it has any.
+fn opened<'a>(alloc: Global, known: &Unrolled<'a>) -> Result<Unrolled<'a>, Memory>
+    ensures worth { IfOk result (λ x. (nodes : List GroundNode) → (numbers : List ℤ) → worth nodes numbers x ≡ worth nodes numbers known.now) }
+    ensures terms { IfOk result (λ x. (count : ℕ) → AreTerms count known.now → AreTerms count x) }
+{
+    match known {
+        Unrolled::Number(term) => Ok(Unrolled::Number(*term)),
+        Unrolled::Cells(first, domains) => match domains.split_first() {
+            Some((own, inner)) => cells_opened(alloc, *first, own, inner),
+            None => Ok(Unrolled::Cells(*first, domains)),
+        },
+        Unrolled::Fixed(seen) => opened_seen(alloc, seen),
+        // Its parts stand apart already.
+        Unrolled::Matrix(_, _) => Err(Memory),
+    }
+}
+
 /// The entries of what was unrolled. Where `..` stands, or indices are left out, it ends as want of memory.
 #[cycle(opening)]
 pub fn known_entries(
@@ -108,65 +114,94 @@ pub fn known_entries(
     ensures { IfOk result (λ es. AreTerms (length arena.old) known.now
         → AreEntries arena.old arena.new slots.now (λ numbers. worth arena.old numbers known.now) es.keys.items es.terms.items) }
 {
-    match known {
-        Unrolled::Number(term) => term_entry(alloc, *term, slots),
-        Unrolled::Cells(first, domains) => {
-            let block = Block {
-                first: *first,
-                domains,
-            };
-            cell_entries(alloc, arena, block, slots)
-        }
-        Unrolled::Fixed(seen) => seen_entries(alloc, arena, seen, slots),
-        Unrolled::Matrix(own, parts) => matrix_entries(alloc, arena, own, parts, slots),
+    if is_nothing(known) {
+        return Ok(no_entries(alloc));
     }
-}
-
-/// The entries of a matrix of these parts.
-#[cycle(opening)]
-fn matrix_entries(
-    alloc: Global,
-    arena: &mut Arena,
-    own: &[i64],
-    parts: &[Unrolled<'_>],
-    slots: &[Slot],
-) -> Result<Entries, Memory>
-    ensures { IfOk result (λ es. HaveTerms (length arena.old) parts.now
-        → AreEntries arena.old arena.new slots.now (λ numbers. parts_worth own.now arena.old numbers parts.now) es.keys.items es.terms.items) }
-{
     match slots.split_first() {
         Some((slot, rest)) => match slot {
             Slot::Every => Err(Memory),
-            Slot::At(index) => matrix_entries_at(alloc, arena, own, parts, *index, rest),
-            Slot::Open(_) => matrix_entries_under(alloc, arena, own, parts, rest),
+            Slot::At(index) => entries_at(alloc, arena, known, *index, rest),
+            Slot::Open(_) => entries_under(alloc, arena, known, rest),
         },
-        None => Err(Memory),
+        None => scalar_entry(alloc, arena, known),
     }
 }
 
 /// The entries of the part with an index.
 #[cycle(opening)]
-fn matrix_entries_at(
+fn entries_at(
     alloc: Global,
     arena: &mut Arena,
-    own: &[i64],
-    parts: &[Unrolled<'_>],
+    known: &Unrolled<'_>,
     index: i64,
     rest: &[Slot],
 ) -> Result<Entries, Memory>
-    ensures { IfOk result (λ es. HaveTerms (length arena.old) parts.now
-        → AreEntries arena.old arena.new (place.At index ∷ rest.now) (λ numbers. parts_worth own.now arena.old numbers parts.now) es.keys.items es.terms.items) }
+    ensures { IfOk result (λ es. AreTerms (length arena.old) known.now
+        → AreEntries arena.old arena.new (place.At index ∷ rest.now) (λ numbers. worth arena.old numbers known.now) es.keys.items es.terms.items) }
 {
-    match part_with(own, parts, index) {
-        Some(part) => known_entries(alloc, arena, part, rest),
-        None => Ok(no_entries(alloc)),
+    match known {
+        Unrolled::Number(_) => Ok(no_entries(alloc)),
+        Unrolled::Cells(first, domains) => {
+            let block = Block {
+                first: *first,
+                domains,
+            };
+            let cells = block_at(block, index)?;
+            match cells {
+                Some(inner) => {
+                    let part = Unrolled::Cells(inner.first, inner.domains);
+                    known_entries(alloc, arena, &part, rest)
+                }
+                None => Ok(no_entries(alloc)),
+            }
+        }
+        Unrolled::Fixed(seen) => {
+            let value = part_seen(seen, index);
+            match value {
+                Some(own) => {
+                    let part = Unrolled::Fixed(Some(Held::Lent(own)));
+                    known_entries(alloc, arena, &part, rest)
+                }
+                None => Ok(no_entries(alloc)),
+            }
+        }
+        Unrolled::Matrix(own, parts) => {
+            let found = part_with(own, parts, index);
+            match found {
+                Some(part) => known_entries(alloc, arena, part, rest),
+                None => Ok(no_entries(alloc)),
+            }
+        }
     }
 }
 
-/// The entries of the parts, where the first index has decision variables. Where indices don't ascend it ends as want of
-/// memory: those of matrices do.
+/// The entries of the parts, where the first index has decision variables. Of a number it ends as want of memory: a number
+/// has no part.
 #[cycle(opening)]
-fn matrix_entries_under(
+fn entries_under(
+    alloc: Global,
+    arena: &mut Arena,
+    known: &Unrolled<'_>,
+    rest: &[Slot],
+) -> Result<Entries, Memory>
+    ensures { (t : ℕ) → IfOk result (λ es. AreTerms (length arena.old) known.now
+        → AreEntries arena.old arena.new (place.Open t ∷ rest.now) (λ numbers. worth arena.old numbers known.now) es.keys.items es.terms.items) }
+{
+    match known {
+        Unrolled::Matrix(own, parts) => entries_of_each(alloc, arena, own, parts, rest),
+        _ => {
+            let whole = opened(alloc, known)?;
+            match &whole {
+                Unrolled::Matrix(own, parts) => entries_of_each(alloc, arena, own, parts, rest),
+                _ => Err(Memory),
+            }
+        }
+    }
+}
+
+/// The entries of each part. Where indices don't ascend it ends as want of memory: those of matrices do.
+#[cycle(opening)]
+fn entries_of_each(
     alloc: Global,
     arena: &mut Arena,
     own: &[i64],
@@ -179,22 +214,6 @@ fn matrix_entries_under(
     if !ascend(own) {
         return Err(Memory);
     }
-    matrix_entries_of_each(alloc, arena, own, parts, rest)
-}
-
-/// The entries of each part.
-#[cycle(opening)]
-fn matrix_entries_of_each(
-    alloc: Global,
-    arena: &mut Arena,
-    own: &[i64],
-    parts: &[Unrolled<'_>],
-    rest: &[Slot],
-) -> Result<Entries, Memory>
-    requires { IsAscending own.now }
-    ensures { (t : ℕ) → IfOk result (λ es. HaveTerms (length arena.old) parts.now
-        → AreEntries arena.old arena.new (place.Open t ∷ rest.now) (λ numbers. parts_worth own.now arena.old numbers parts.now) es.keys.items es.terms.items) }
-{
     let count = parts.len();
     let mut keys = Vec::new(alloc);
     let mut terms = Vec::new(alloc);

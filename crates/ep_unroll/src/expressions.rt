@@ -3,32 +3,31 @@
 ghost use Rattle.std.specs.Prelude.{◌≡◌, ◌∷◌, true, List, Some, IfOk, map, option_map};
 ghost use Rattle.std.specs.List.{All};
 ghost use Rattle.ep_base.specs.declared.places.Place.{Place};
+ghost use Rattle.ep_forms.specs.Forms.{counts_node, one_node, quantified_tree, two_node};
 ghost use Rattle.ep_ground.specs.Nodes.{GroundNode};
 ghost use Rattle.ep_tree.specs.Evaluation.{domain_values};
 ghost use Rattle.ep_tree.specs.Reach.{decisions_in};
-ghost use Rattle.ep_tree.specs.Views.{domain_tree, expr_tree, expr_trees, generators_of, kind_tree, terms_of};
-ghost use Rattle.ep_eval.specs.Generating.{lists_joined, part_value};
-ghost use Rattle.ep_eval.specs.Instances.{quantified_tree};
+ghost use Rattle.ep_tree.specs.Trees.{read};
+ghost use Rattle.ep_tree.specs.Views.{domain_tree, expr_tree, expr_trees, generators_of, indices_of, terms_of};
+ghost use Rattle.ep_eval.specs.Generating.{lists_joined, part_value, parts_at, parts_of, ranging_over};
 ghost use Rattle.ep_eval.specs.Scopes.{env_in, mode_in};
 ghost use Rattle.ep_size.specs.Free as free;
 ghost use Rattle.ep_unroll.specs.Firsts.{numbering_of};
-ghost use Rattle.ep_unroll.specs.Kinds.{AsksDomain, AsksSet, CountsNumbers, IsConnective, IsName, IsSumChain, MakesMatrix, ReadsMatrix, TakesMatrices, TakesMatrix, TakesOneTerm, TakesTwoTerms};
+ghost use Rattle.ep_unroll.specs.Kinds.{IsName};
 ghost use Rattle.ep_unroll.specs.Meanings.{AreInstancesOf, AreNumbersOf, IsNumberOf, IsTermOf, Means};
 ghost use Rattle.ep_unroll.specs.Picks.{IsFreeIndex, SlotMeans, SlotsMean};
-ghost use Rattle.ep_unroll.specs.PartLists.{ArePartsOf, ListsTerms, parts_at, parts_in, parts_of, ranging_over};
+ghost use Rattle.ep_unroll.specs.PartLists.{ArePartsOf, ListsTerms, parts_in};
 ghost use Rattle.ep_unroll.specs.Readings.{Numbering};
 ghost use Rattle.ep_unroll.specs.Scalars.{AreScalarsOf};
 ghost use Rattle.ep_unroll.specs.Signed.{AreSigned};
 
 use super::choices::read_with;
-use super::comprehensions::{
-    Listing, Ranging, comprehension_matrix, conditions_hold, with_one_more,
-};
+use super::comprehensions::{comprehension_matrix, conditions_hold, with_one_more};
 use super::firsts::CellTable;
 use super::fixed::{fixed_numbers, fixed_value, is_fixed};
 use super::fixed_lists::{fixed_rows, fixed_scalars};
 use super::flattening::flattened;
-use super::forms::{finish_all, finish_one, finish_two};
+use super::forms::{comparison, finish_all, finish_binary, magnitude, negated, negation};
 use super::list_forms::{at_least_term, at_most_term, counts_term, lex_term, table_term};
 use super::literals::made_matrix;
 use super::matrices::{different_term, folded_term};
@@ -43,7 +42,8 @@ use super::slots::{Slot, are_decided, fixed_slot};
 use super::sums::{chain_term, sign_of};
 use super::unrolled::Unrolled;
 use ep_base::{Memory, Name, Runs};
-use ep_eval::{Around, Quantifier, Scope, next_number, scalar_of, walk_of};
+use ep_eval::{Around, Ranging, Scope, next_number, scalar_of, walk_of};
+use ep_forms::{CountOp, Form, Listing, OneOp, Quantifier, TwoOp, form_of};
 use ep_ground::{Arena, Term};
 use ep_tree::{Expr, Generator, Kind};
 
@@ -68,20 +68,212 @@ pub fn unrolled<'a>(
     ensures { IfOk result (Means (numbering_of (mode_in scope.entry) table.now) (env_in scope.entry) arena.old arena.new (expr_tree e.now)) }
 {
     if is_fixed(scope, e) {
-        return fixed(scope, e);
+        let known = fixed(scope, e)?;
+        return Ok(known);
     }
-    if let Kind::Quant(op, names, domain, body) = &e.kind {
-        let quantifier = Quantifier {
-            op: *op,
-            domain,
-            body,
-        };
-        return quantified(scope, table, arena, quantifier, names);
+    match form_of(&e.kind) {
+        // A number and a truth value hold no decision variable.
+        Form::Number(_) => Err(Memory),
+        Form::Truth(_) => Err(Memory),
+        Form::Named(name) => {
+            let known = named_cells(scope, table, name)?;
+            Ok(known)
+        }
+        Form::One(op, part) => {
+            let known = one_unrolled(scope, table, arena, op, part)?;
+            Ok(known)
+        }
+        Form::Two(op, left, right) => {
+            let term = two_term(scope, table, arena, op, left, right)?;
+            Ok(Unrolled::Number(term))
+        }
+        Form::Counts(op, list, one, other) => {
+            let term = counted_term(scope, table, arena, op, list, one, other)?;
+            Ok(Unrolled::Number(term))
+        }
+        Form::Truths(every, parts) => {
+            let terms = terms_of_all(scope, table, arena, parts)?;
+            let term = finish_all(scope, arena, table.count, every, terms)?;
+            Ok(Unrolled::Number(term))
+        }
+        Form::Chain(terms) => {
+            let parts = signed_terms(scope, table, arena, terms)?;
+            let term = chain_term(arena, parts)?;
+            Ok(Unrolled::Number(term))
+        }
+        Form::InDomain(part, domain) => {
+            let own = term_of(scope, table, arena, part)?;
+            let numbers = fixed_numbers(scope, domain)?;
+            let term = member_term(scope, arena, table.count, own, numbers)?;
+            Ok(Unrolled::Number(term))
+        }
+        Form::Quant(quantifier, names) => {
+            let known = quantified(scope, table, arena, quantifier, names)?;
+            Ok(known)
+        }
+        Form::Literal(parts, domain) => {
+            let own = parts_of_all(scope, table, arena, parts)?;
+            let known = made_matrix(scope, domain, own)?;
+            Ok(known)
+        }
+        Form::Comprehension(listing, generators, domain) => {
+            let none = Some(Vec::new(scope.alloc));
+            let parts = generated(scope, table, arena, listing, generators, none)?;
+            let known = comprehension_matrix(scope, domain, parts)?;
+            Ok(known)
+        }
+        Form::Read(matrix, indices) => {
+            let known = read_unrolled(scope, table, arena, e, matrix, indices)?;
+            Ok(known)
+        }
     }
-    if is_read(&e.kind) {
-        return read_unrolled(scope, table, arena, e);
+}
+
+/// What is made of one part.
+#[cycle(unrolling)]
+fn one_unrolled<'a>(
+    scope: Scope<'_, 'a>,
+    table: &CellTable,
+    arena: &mut Arena,
+    op: OneOp,
+    part: &Expr,
+) -> Result<Unrolled<'a>, Memory>
+    ensures { IfOk result (λ known. (p : Place) → Means (numbering_of (mode_in scope.entry) table.now) (env_in scope.entry) arena.old arena.new
+        (one_node p op (expr_tree part.now)) known) }
+{
+    match op {
+        OneOp::Group => {
+            let known = unrolled(scope, table, arena, part)?;
+            Ok(known)
+        }
+        OneOp::ToInt => {
+            let known = unrolled(scope, table, arena, part)?;
+            Ok(known)
+        }
+        OneOp::Flatten => {
+            let own = unrolled(scope, table, arena, part)?;
+            let known = flattened(scope.alloc, own)?;
+            Ok(known)
+        }
+        OneOp::Not => {
+            let own = term_of(scope, table, arena, part)?;
+            let term = negation(scope, arena, table.count, own)?;
+            Ok(Unrolled::Number(term))
+        }
+        OneOp::Neg => {
+            let own = term_of(scope, table, arena, part)?;
+            let term = negated(scope.alloc, arena, own)?;
+            Ok(Unrolled::Number(term))
+        }
+        OneOp::Abs => {
+            let own = term_of(scope, table, arena, part)?;
+            let term = magnitude(arena, own)?;
+            Ok(Unrolled::Number(term))
+        }
+        OneOp::AllDiff => {
+            let terms = scalars_of(scope, table, arena, part)?;
+            let term = different_term(scope, arena, table.count, terms)?;
+            Ok(Unrolled::Number(term))
+        }
+        OneOp::Fold(fold) => {
+            let own = unrolled(scope, table, arena, part)?;
+            let term = folded_term(scope, arena, table.count, fold, own)?;
+            Ok(Unrolled::Number(term))
+        }
+        // No decision variable may stand in it.
+        OneOp::Factorial => Err(Memory),
     }
-    kind_unrolled(scope, table, arena, &e.kind)
+}
+
+/// The term of what is made of two parts.
+#[cycle(unrolling)]
+fn two_term(
+    scope: Scope<'_, '_>,
+    table: &CellTable,
+    arena: &mut Arena,
+    op: TwoOp,
+    left: &Expr,
+    right: &Expr,
+) -> Result<Term, Memory>
+    ensures { IfOk result (λ term. (p : Place) → IsTermOf (numbering_of (mode_in scope.entry) table.now) (env_in scope.entry) arena.old arena.new
+        (two_node p op (expr_tree left.now) (expr_tree right.now)) term) }
+{
+    match op {
+        TwoOp::Binary(operator) => {
+            let one = term_of(scope, table, arena, left)?;
+            let other = term_of(scope, table, arena, right)?;
+            let term = finish_binary(scope, arena, table.count, operator, one, other)?;
+            Ok(term)
+        }
+        TwoOp::Compare(operator) => {
+            let one = term_of(scope, table, arena, left)?;
+            let other = term_of(scope, table, arena, right)?;
+            let term = comparison(scope, arena, table.count, operator, one, other)?;
+            Ok(term)
+        }
+        TwoOp::InSet => {
+            let own = term_of(scope, table, arena, left)?;
+            if is_fixed(scope, right) {
+                let numbers = fixed_scalars(scope, right)?;
+                let term = listed_member(scope, arena, table.count, own, numbers)?;
+                return Ok(term);
+            }
+            let terms = scalars_of(scope, table, arena, right)?;
+            let term = chosen_member(scope, arena, table.count, own, &terms)?;
+            Ok(term)
+        }
+        TwoOp::Lex(operator) => {
+            let terms = scalars_of(scope, table, arena, left)?;
+            let others = scalars_of(scope, table, arena, right)?;
+            let term = lex_term(scope, arena, table.count, operator, terms, others)?;
+            Ok(term)
+        }
+        TwoOp::Table => {
+            let terms = scalars_of(scope, table, arena, left)?;
+            let rows = fixed_rows(scope, right)?;
+            let term = table_term(scope, arena, table.count, terms, rows)?;
+            Ok(term)
+        }
+    }
+}
+
+/// The term of how often numbers stand in a matrix, with two lists in the order of the text.
+#[cycle(unrolling)]
+fn counted_term(
+    scope: Scope<'_, '_>,
+    table: &CellTable,
+    arena: &mut Arena,
+    op: CountOp,
+    list: &Expr,
+    one: &Expr,
+    other: &Expr,
+) -> Result<Term, Memory>
+    ensures { IfOk result (λ term. (p : Place) → IsTermOf (numbering_of (mode_in scope.entry) table.now) (env_in scope.entry) arena.old arena.new
+        (counts_node p op (expr_tree list.now) (expr_tree one.now) (expr_tree other.now)) term) }
+{
+    match op {
+        CountOp::Gcc => {
+            let terms = scalars_of(scope, table, arena, list)?;
+            let values = fixed_scalars(scope, one)?;
+            let counts = scalars_of(scope, table, arena, other)?;
+            let term = counts_term(scope, arena, table.count, terms, values, counts)?;
+            Ok(term)
+        }
+        CountOp::AtLeast => {
+            let terms = scalars_of(scope, table, arena, list)?;
+            let bounds = fixed_scalars(scope, one)?;
+            let values = fixed_scalars(scope, other)?;
+            let term = at_least_term(scope, arena, table.count, terms, bounds, values)?;
+            Ok(term)
+        }
+        CountOp::AtMost => {
+            let terms = scalars_of(scope, table, arena, list)?;
+            let bounds = fixed_scalars(scope, one)?;
+            let values = fixed_scalars(scope, other)?;
+            let term = at_most_term(scope, arena, table.count, terms, bounds, values)?;
+            Ok(term)
+        }
+    }
 }
 
 /// The term of an expression's number.
@@ -98,16 +290,6 @@ pub fn term_of(
     number_term(arena, &known)
 }
 
-/// Whether an expression of this kind is a read.
-fn is_read(kind: &Kind) -> bool
-    ensures { result ≡ true → ReadsMatrix kind.now }
-{
-    match kind {
-        Kind::Read(_, _) => true,
-        _ => false,
-    }
-}
-
 /// Whether an expression is a name.
 fn is_named(e: &Expr) -> bool
     ensures { result ≡ true → IsName e.now.kind }
@@ -115,146 +297,6 @@ fn is_named(e: &Expr) -> bool
     match &e.kind {
         Kind::Named(_) => true,
         _ => false,
-    }
-}
-
-/// What an expression of this kind is unrolled to.
-#[cycle(unrolling)]
-fn kind_unrolled<'a>(
-    scope: Scope<'_, 'a>,
-    table: &CellTable,
-    arena: &mut Arena,
-    kind: &Kind,
-) -> Result<Unrolled<'a>, Memory>
-    ensures { (p : Place) → IfOk result (Means (numbering_of (mode_in scope.entry) table.now) (env_in scope.entry) arena.old arena.new (kind_tree p kind.now)) }
-{
-    match kind {
-        Kind::Named(name) => named_cells(scope, table, name),
-        Kind::Group(part) => unrolled(scope, table, arena, part),
-        Kind::ToInt(part) => unrolled(scope, table, arena, part),
-        Kind::Flatten(_) | Kind::Literal(_, _) | Kind::Comprehension(_, _, _, _) => {
-            matrix_unrolled(scope, table, arena, kind)
-        }
-        _ => number_unrolled(scope, table, arena, kind),
-    }
-}
-
-/// The same of a kind that is a number.
-#[cycle(unrolling)]
-fn number_unrolled<'a>(
-    scope: Scope<'_, 'a>,
-    table: &CellTable,
-    arena: &mut Arena,
-    kind: &Kind,
-) -> Result<Unrolled<'a>, Memory>
-    ensures { (p : Place) → IfOk result (Means (numbering_of (mode_in scope.entry) table.now) (env_in scope.entry) arena.old arena.new (kind_tree p kind.now)) }
-{
-    let term = kind_term(scope, table, arena, kind)?;
-    Ok(Unrolled::Number(term))
-}
-
-/// The term of a kind that is a number.
-#[cycle(unrolling)]
-fn kind_term(
-    scope: Scope<'_, '_>,
-    table: &CellTable,
-    arena: &mut Arena,
-    kind: &Kind,
-) -> Result<Term, Memory>
-    ensures { (p : Place) → IfOk result (IsTermOf (numbering_of (mode_in scope.entry) table.now) (env_in scope.entry) arena.old arena.new (kind_tree p kind.now)) }
-{
-    match kind {
-        Kind::Not(_) | Kind::Neg(_) | Kind::Abs(_) => with_one(scope, table, arena, kind),
-        Kind::Binary(_, _, _) | Kind::Compare(_, _, _) => with_two(scope, table, arena, kind),
-        Kind::And(_) | Kind::Or(_) => with_parts(scope, table, arena, kind),
-        Kind::Add(_) => with_terms(scope, table, arena, kind),
-        Kind::InDomain(_, _) => with_domain(scope, table, arena, kind),
-        Kind::InSet(_, _) => with_set(scope, table, arena, kind),
-        Kind::Fold(_, _) | Kind::AllDiff(_) => with_matrix(scope, table, arena, kind),
-        Kind::Lex(_, _, _) | Kind::Table(_, _) => with_matrices(scope, table, arena, kind),
-        Kind::Gcc(_, _, _) | Kind::AtLeast(_, _, _) | Kind::AtMost(_, _, _) => with_counts(
-            scope, table, arena, kind,
-        ),
-        // No other kind comes here.
-        _ => Err(Memory),
-    }
-}
-
-/// The same of a kind with one part.
-#[cycle(unrolling)]
-fn with_one(
-    scope: Scope<'_, '_>,
-    table: &CellTable,
-    arena: &mut Arena,
-    kind: &Kind,
-) -> Result<Term, Memory>
-    requires { TakesOneTerm kind.now }
-    ensures { (p : Place) → IfOk result (IsTermOf (numbering_of (mode_in scope.entry) table.now) (env_in scope.entry) arena.old arena.new (kind_tree p kind.now)) }
-{
-    match kind {
-        Kind::Not(part) => {
-            let term = term_of(scope, table, arena, part)?;
-            finish_one(scope, arena, table.count, kind, term)
-        }
-        Kind::Neg(part) => {
-            let term = term_of(scope, table, arena, part)?;
-            finish_one(scope, arena, table.count, kind, term)
-        }
-        Kind::Abs(part) => {
-            let term = term_of(scope, table, arena, part)?;
-            finish_one(scope, arena, table.count, kind, term)
-        }
-        _ => unreachable!(),
-    }
-}
-
-/// The same of a kind with two parts.
-#[cycle(unrolling)]
-fn with_two(
-    scope: Scope<'_, '_>,
-    table: &CellTable,
-    arena: &mut Arena,
-    kind: &Kind,
-) -> Result<Term, Memory>
-    requires { TakesTwoTerms kind.now }
-    ensures { (p : Place) → IfOk result (IsTermOf (numbering_of (mode_in scope.entry) table.now) (env_in scope.entry) arena.old arena.new (kind_tree p kind.now)) }
-{
-    match kind {
-        Kind::Binary(_, left, right) => {
-            let one = term_of(scope, table, arena, left)?;
-            let other = term_of(scope, table, arena, right)?;
-            finish_two(scope, arena, table.count, kind, one, other)
-        }
-        Kind::Compare(_, left, right) => {
-            let one = term_of(scope, table, arena, left)?;
-            let other = term_of(scope, table, arena, right)?;
-            finish_two(scope, arena, table.count, kind, one, other)
-        }
-        _ => unreachable!(),
-    }
-}
-
-/// The same of a connective.
-#[cycle(unrolling)]
-fn with_parts(
-    scope: Scope<'_, '_>,
-    table: &CellTable,
-    arena: &mut Arena,
-    kind: &Kind,
-) -> Result<Term, Memory>
-    requires { IsConnective kind.now }
-    ensures { (p : Place) → IfOk result (IsTermOf (numbering_of (mode_in scope.entry) table.now) (env_in scope.entry) arena.old arena.new (kind_tree p kind.now)) }
-{
-    match kind {
-        Kind::And(parts) => {
-            let terms = terms_of_all(scope, table, arena, parts)?;
-            finish_all(scope, arena, table.count, kind, terms)
-        }
-        Kind::Or(parts) => {
-            let terms = terms_of_all(scope, table, arena, parts)?;
-            finish_all(scope, arena, table.count, kind, terms)
-        }
-        _ => unreachable!(),
     }
 }
 
@@ -276,26 +318,6 @@ fn terms_of_all(
     Ok(terms)
 }
 
-/// The same of a chain of sums.
-#[cycle(unrolling)]
-fn with_terms(
-    scope: Scope<'_, '_>,
-    table: &CellTable,
-    arena: &mut Arena,
-    kind: &Kind,
-) -> Result<Term, Memory>
-    requires { IsSumChain kind.now }
-    ensures { (p : Place) → IfOk result (IsTermOf (numbering_of (mode_in scope.entry) table.now) (env_in scope.entry) arena.old arena.new (kind_tree p kind.now)) }
-{
-    match kind {
-        Kind::Add(terms) => {
-            let parts = signed_terms(scope, table, arena, terms)?;
-            chain_term(arena, parts)
-        }
-        _ => unreachable!(),
-    }
-}
-
 /// The terms of a chain, each with its sign as a coefficient.
 #[cycle(unrolling)]
 fn signed_terms(
@@ -314,27 +336,6 @@ fn signed_terms(
     Ok(parts)
 }
 
-/// Membership in a domain.
-#[cycle(unrolling)]
-fn with_domain(
-    scope: Scope<'_, '_>,
-    table: &CellTable,
-    arena: &mut Arena,
-    kind: &Kind,
-) -> Result<Term, Memory>
-    requires { AsksDomain kind.now }
-    ensures { (p : Place) → IfOk result (IsTermOf (numbering_of (mode_in scope.entry) table.now) (env_in scope.entry) arena.old arena.new (kind_tree p kind.now)) }
-{
-    match kind {
-        Kind::InDomain(part, domain) => {
-            let term = term_of(scope, table, arena, part)?;
-            let numbers = fixed_numbers(scope, domain)?;
-            member_term(scope, arena, table.count, term, numbers)
-        }
-        _ => unreachable!(),
-    }
-}
-
 /// A quantifier over these names; without any name it is its body.
 #[cycle(unrolling)]
 fn quantified<'a>(
@@ -344,15 +345,18 @@ fn quantified<'a>(
     quantifier: Quantifier<'_>,
     names: &[Name],
 ) -> Result<Unrolled<'a>, Memory>
-    ensures { (p : Place) → IfOk result (Means (numbering_of (mode_in scope.entry) table.now) (env_in scope.entry) arena.old arena.new
-        (quantified_tree p quantifier.entry names.now)) }
+    ensures { IfOk result (λ known. (p : Place) → Means (numbering_of (mode_in scope.entry) table.now) (env_in scope.entry) arena.old arena.new
+        (quantified_tree p quantifier.entry names.now) known) }
 {
     match names.split_first() {
         Some((name, rest)) => {
             let term = over_domain(scope, table, arena, quantifier, name, rest)?;
             Ok(Unrolled::Number(term))
         }
-        None => unrolled(scope, table, arena, quantifier.body),
+        None => {
+            let known = unrolled(scope, table, arena, quantifier.body)?;
+            Ok(known)
+        }
     }
 }
 
@@ -462,21 +466,18 @@ fn read_unrolled<'a>(
     table: &CellTable,
     arena: &mut Arena,
     e: &Expr,
+    matrix: &Expr,
+    indices: &[Option<Expr>],
 ) -> Result<Unrolled<'a>, Memory>
-    requires { ReadsMatrix e.now.kind }
+    requires { expr_tree e.now ≡ read e.now.place (expr_tree matrix.now) (indices_of indices.now) }
     ensures { IfOk result (Means (numbering_of (mode_in scope.entry) table.now) (env_in scope.entry) arena.old arena.new (expr_tree e.now)) }
 {
-    match &e.kind {
-        Kind::Read(matrix, indices) => {
-            if reads_cells(scope, matrix, indices) {
-                return read_of(scope, table, e, matrix, indices);
-            }
-            let known = unrolled(scope, table, arena, matrix)?;
-            let slots = slots_of(scope, table, arena, indices)?;
-            read_with(scope, table, arena, e, known, slots)
-        }
-        _ => unreachable!(),
+    if reads_cells(scope, matrix, indices) {
+        return read_of(scope, table, e, matrix, indices);
     }
+    let known = unrolled(scope, table, arena, matrix)?;
+    let slots = slots_of(scope, table, arena, indices)?;
+    read_with(scope, table, arena, e, known, slots)
 }
 
 /// Whether a name is read at indices in which no decision variable stands. Linear in their text.
@@ -485,36 +486,6 @@ fn reads_cells(scope: Scope<'_, '_>, matrix: &Expr, indices: &[Option<Expr>]) ->
     ensures indices { result ≡ true → All (IsFreeIndex (decisions_in (env_in scope.entry))) indices.now }
 {
     is_named(matrix) && are_decided(scope, indices)
-}
-
-/// What a kind that is a matrix is unrolled to.
-#[cycle(unrolling)]
-fn matrix_unrolled<'a>(
-    scope: Scope<'_, 'a>,
-    table: &CellTable,
-    arena: &mut Arena,
-    kind: &Kind,
-) -> Result<Unrolled<'a>, Memory>
-    requires { MakesMatrix kind.now }
-    ensures { (p : Place) → IfOk result (Means (numbering_of (mode_in scope.entry) table.now) (env_in scope.entry) arena.old arena.new (kind_tree p kind.now)) }
-{
-    match kind {
-        Kind::Literal(parts, domain) => {
-            let own = parts_of_all(scope, table, arena, parts)?;
-            made_matrix(scope, domain, own)
-        }
-        Kind::Comprehension(body, generators, conditions, domain) => {
-            let listing = Listing { body, conditions };
-            let none = Some(Vec::new(scope.alloc));
-            let parts = generated(scope, table, arena, listing, generators, none)?;
-            comprehension_matrix(scope, domain, parts)
-        }
-        Kind::Flatten(part) => {
-            let known = unrolled(scope, table, arena, part)?;
-            flattened(scope.alloc, known)
-        }
-        _ => unreachable!(),
-    }
 }
 
 /// What some expressions are unrolled to.
@@ -664,113 +635,4 @@ fn scalars_of(
 {
     let known = unrolled(scope, table, arena, e)?;
     taken_scalars(scope.alloc, arena, known)
-}
-
-/// The same of a kind with a matrix as its part.
-#[cycle(unrolling)]
-fn with_matrix(
-    scope: Scope<'_, '_>,
-    table: &CellTable,
-    arena: &mut Arena,
-    kind: &Kind,
-) -> Result<Term, Memory>
-    requires { TakesMatrix kind.now }
-    ensures { (p : Place) → IfOk result (IsTermOf (numbering_of (mode_in scope.entry) table.now) (env_in scope.entry) arena.old arena.new (kind_tree p kind.now)) }
-{
-    match kind {
-        Kind::AllDiff(part) => {
-            let terms = scalars_of(scope, table, arena, part)?;
-            different_term(scope, arena, table.count, terms)
-        }
-        Kind::Fold(op, part) => {
-            let known = unrolled(scope, table, arena, part)?;
-            folded_term(scope, arena, table.count, *op, known)
-        }
-        _ => unreachable!(),
-    }
-}
-
-/// Membership in the set of a matrix's scalars.
-#[cycle(unrolling)]
-fn with_set(
-    scope: Scope<'_, '_>,
-    table: &CellTable,
-    arena: &mut Arena,
-    kind: &Kind,
-) -> Result<Term, Memory>
-    requires { AsksSet kind.now }
-    ensures { (p : Place) → IfOk result (IsTermOf (numbering_of (mode_in scope.entry) table.now) (env_in scope.entry) arena.old arena.new (kind_tree p kind.now)) }
-{
-    match kind {
-        Kind::InSet(part, matrix) => {
-            let term = term_of(scope, table, arena, part)?;
-            if is_fixed(scope, matrix) {
-                let own = fixed_scalars(scope, matrix)?;
-                return listed_member(scope, arena, table.count, term, own);
-            }
-            let terms = scalars_of(scope, table, arena, matrix)?;
-            chosen_member(scope, arena, table.count, term, &terms)
-        }
-        _ => unreachable!(),
-    }
-}
-
-/// The same of a kind with two parts, of which one is a matrix.
-#[cycle(unrolling)]
-fn with_matrices(
-    scope: Scope<'_, '_>,
-    table: &CellTable,
-    arena: &mut Arena,
-    kind: &Kind,
-) -> Result<Term, Memory>
-    requires { TakesMatrices kind.now }
-    ensures { (p : Place) → IfOk result (IsTermOf (numbering_of (mode_in scope.entry) table.now) (env_in scope.entry) arena.old arena.new (kind_tree p kind.now)) }
-{
-    match kind {
-        Kind::Lex(op, left, right) => {
-            let terms = scalars_of(scope, table, arena, left)?;
-            let others = scalars_of(scope, table, arena, right)?;
-            lex_term(scope, arena, table.count, *op, terms, others)
-        }
-        Kind::Table(row, rows) => {
-            let terms = scalars_of(scope, table, arena, row)?;
-            let own = fixed_rows(scope, rows)?;
-            table_term(scope, arena, table.count, terms, own)
-        }
-        _ => unreachable!(),
-    }
-}
-
-/// The same of a kind that counts values of a matrix.
-#[cycle(unrolling)]
-fn with_counts(
-    scope: Scope<'_, '_>,
-    table: &CellTable,
-    arena: &mut Arena,
-    kind: &Kind,
-) -> Result<Term, Memory>
-    requires { CountsNumbers kind.now }
-    ensures { (p : Place) → IfOk result (IsTermOf (numbering_of (mode_in scope.entry) table.now) (env_in scope.entry) arena.old arena.new (kind_tree p kind.now)) }
-{
-    match kind {
-        Kind::Gcc(part, values, counts) => {
-            let terms = scalars_of(scope, table, arena, part)?;
-            let own = fixed_scalars(scope, values)?;
-            let others = scalars_of(scope, table, arena, counts)?;
-            counts_term(scope, arena, table.count, terms, own, others)
-        }
-        Kind::AtLeast(part, counts, values) => {
-            let terms = scalars_of(scope, table, arena, part)?;
-            let bounds = fixed_scalars(scope, counts)?;
-            let own = fixed_scalars(scope, values)?;
-            at_least_term(scope, arena, table.count, terms, bounds, own)
-        }
-        Kind::AtMost(part, counts, values) => {
-            let terms = scalars_of(scope, table, arena, part)?;
-            let bounds = fixed_scalars(scope, counts)?;
-            let own = fixed_scalars(scope, values)?;
-            at_most_term(scope, arena, table.count, terms, bounds, own)
-        }
-        _ => unreachable!(),
-    }
 }

@@ -10,7 +10,7 @@ ghost use Rattle.ep_size.specs.Free as free;
 ghost use Rattle.ep_unroll.specs.Readings.{Numbering, Reading};
 
 use ep_base::{Memory, Runs};
-use ep_eval::{Held, Scope, numbers_of, value_of};
+use ep_eval::{Held, Scope, numbers_after, value_after};
 use ep_size::{Hidden, is_free_domain, standing_in};
 use ep_tree::{Domain, Expr};
 
@@ -36,7 +36,7 @@ pub fn fixed_value<'a>(scope: Scope<'_, 'a>, e: &Expr) -> Result<Option<Held<'a>
         → evaluate (mode_in scope.entry) r.values (expr_tree e.now) ≡ seen_held seen) }
 {
     let mut met = 0;
-    match value_of(scope, &mut met, e) {
+    match value_after(scope, &mut met, e) {
         Ok(seen) => Ok(seen),
         Err(_) => Err(Memory),
     }
@@ -52,7 +52,7 @@ pub fn fixed_numbers(scope: Scope<'_, '_>, d: &Domain) -> Result<Option<Runs>, M
         return Err(Memory);
     }
     let mut met = 0;
-    match numbers_of(scope, &mut met, d) {
+    match numbers_after(scope, &mut met, d) {
         Ok(set) => Ok(set),
         Err(_) => Err(Memory),
     }

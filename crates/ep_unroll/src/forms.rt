@@ -1,21 +1,18 @@
 //! The nodes of forms whose parts are numbers.
 
-ghost use Rattle.std.specs.Prelude.{◌≡◌, ◌<◌, ◌≤◌, ℤ, true, List, [], ◌∷◌, pos, negsuc, IfOk, IsSome, Some, length};
+ghost use Rattle.std.specs.Prelude.{◌≡◌, ◌<◌, ◌≤◌, ℤ, true, List, [], ◌∷◌, pos, negsuc, IfOk, IsSome, length};
 ghost use Rattle.std.specs.List.{All};
 ghost use Rattle.ep_base.specs.declared.places.Place.{Place};
-ghost use Rattle.ep_ground.specs.Nodes.{GroundNode, sum};
+ghost use Rattle.ep_ground.specs.Nodes.{GroundNode, absolute as node_absolute, sum};
 ghost use Rattle.ep_ground.specs.Terms.{term_value};
 ghost use Rattle.ep_eval.specs.Scopes.{mode_in};
 ghost use Rattle.ep_tree.specs.declared.values.Mode.{Mode as EachMode};
 ghost use Rattle.ep_tree.specs.Environments as names;
-ghost use Rattle.ep_tree.specs.Trees.{ExprTree, ExprTrees, binary};
-ghost use Rattle.ep_tree.specs.Views.{kind_tree};
+ghost use Rattle.ep_tree.specs.Trees.{ExprTree, ExprTrees, binary, negation as tree_negation};
+ghost use Rattle.ep_forms.specs.Forms.{truths_node};
 ghost use Rattle.ep_tree.specs.declared.syntax.BinaryOp.{BinaryOp as EachOp};
-ghost use Rattle.ep_unroll.specs.Lists.{all_parts};
 ghost use Rattle.ep_unroll.specs.Growing.{Puts};
-ghost use Rattle.ep_unroll.specs.Kinds.{IsConnective, TakesOneTerm, TakesTwoTerms};
 ghost use Rattle.ep_unroll.specs.Meanings.{AreNumbersOf, IsNumberOf, IsTermOf};
-ghost use Rattle.ep_size.specs.Parts.{part_of, two_parts};
 ghost use Rattle.ep_unroll.specs.Readings.{Numbering};
 ghost use Rattle.ep_unroll.specs.Truths.{IsComparison};
 
@@ -26,7 +23,7 @@ use super::truths::{judged, needed_pair, needed_part, needed_parts, pair};
 use ep_base::{CompareOp, Memory};
 use ep_eval::Scope;
 use ep_ground::{Arena, Node, Term};
-use ep_tree::{BinaryOp, Kind, Mode};
+use ep_tree::{BinaryOp, Mode};
 use std::alloc::Global;
 
 /// One part with its coefficient.
@@ -47,30 +44,28 @@ pub fn negated(alloc: Global, arena: &mut Arena, part: Term) -> Result<Term, Mem
     put(arena, Node::Add(0, parts))
 }
 
-/// A node with one part.
-pub fn finish_one(
+/// `!x`
+pub fn negation(
     scope: Scope<'_, '_>,
     arena: &mut Arena,
     count: u64,
-    kind: &Kind,
     part: Term,
 ) -> Result<Term, Memory>
-    requires part { part < length arena.old }
-    requires kind { TakesOneTerm kind.now }
+    requires { part < length arena.old }
     ensures { (n : Numbering) → (cells : names.Env) → (nodes : List GroundNode) → (p : Place) → (e : ExprTree)
-        → part_of (kind_tree p kind.now) ≡ Some e → n.mode ≡ mode_in scope.entry → n.count ≡ count
-        → IsNumberOf n cells nodes arena.old e part
-        → IfOk result (IsTermOf n cells nodes arena.new (kind_tree p kind.now)) }
+        → n.mode ≡ mode_in scope.entry → n.count ≡ count → IsNumberOf n cells nodes arena.old e part
+        → IfOk result (IsTermOf n cells nodes arena.new (tree_negation p e)) }
 {
-    match kind {
-        Kind::Not(_) => {
-            let needed = needed_part(scope, arena, count, part)?;
-            judged(arena, Node::Not(part), needed)
-        }
-        Kind::Abs(_) => put(arena, Node::Abs(part)),
-        Kind::Neg(_) => negated(scope.alloc, arena, part),
-        _ => unreachable!(),
-    }
+    let needed = needed_part(scope, arena, count, part)?;
+    judged(arena, Node::Not(part), needed)
+}
+
+/// `|x|`
+pub fn magnitude(arena: &mut Arena, part: Term) -> Result<Term, Memory>
+    requires { part < length arena.old }
+    ensures { IfOk result (Puts arena.old arena.new (node_absolute part)) }
+{
+    put(arena, Node::Abs(part))
 }
 
 /// Whether two terms have values whatever numbers the cells have.
@@ -120,7 +115,7 @@ fn implication(
 }
 
 /// A comparison of two numbers.
-fn comparison(
+pub fn comparison(
     scope: Scope<'_, '_>,
     arena: &mut Arena,
     count: u64,
@@ -137,7 +132,7 @@ fn comparison(
 }
 
 /// Two numbers with an operator between them.
-fn finish_binary(
+pub fn finish_binary(
     scope: Scope<'_, '_>,
     arena: &mut Arena,
     count: u64,
@@ -169,49 +164,23 @@ fn finish_binary(
     }
 }
 
-/// A node with two parts.
-pub fn finish_two(
-    scope: Scope<'_, '_>,
-    arena: &mut Arena,
-    count: u64,
-    kind: &Kind,
-    one: Term,
-    other: Term,
-) -> Result<Term, Memory>
-    requires one { one < length arena.old }
-    requires other { other < length arena.old }
-    requires kind { TakesTwoTerms kind.now }
-    ensures { (n : Numbering) → (cells : names.Env) → (nodes : List GroundNode) → (p : Place) → (e : ExprTree) → (f : ExprTree)
-        → two_parts (kind_tree p kind.now) ≡ Some (e, f) → n.mode ≡ mode_in scope.entry → n.count ≡ count
-        → IsNumberOf n cells nodes arena.old e one → IsNumberOf n cells nodes arena.old f other
-        → IfOk result (IsTermOf n cells nodes arena.new (kind_tree p kind.now)) }
-{
-    match kind {
-        Kind::Compare(op, _, _) => comparison(scope, arena, count, *op, one, other),
-        Kind::Binary(op, _, _) => finish_binary(scope, arena, count, *op, one, other),
-        _ => unreachable!(),
-    }
-}
-
-/// A connective of these parts.
+/// A chain of connectives of these parts.
 pub fn finish_all(
     scope: Scope<'_, '_>,
     arena: &mut Arena,
     count: u64,
-    kind: &Kind,
+    every: bool,
     parts: Vec<Term>,
 ) -> Result<Term, Memory>
-    requires parts { All (λ part. part < length arena.old) parts.items }
-    requires kind { IsConnective kind.now }
+    requires { All (λ part. part < length arena.old) parts.items }
     ensures { (n : Numbering) → (cells : names.Env) → (nodes : List GroundNode) → (p : Place) → (es : ExprTrees)
-        → all_parts (kind_tree p kind.now) ≡ Some es → n.mode ≡ mode_in scope.entry → n.count ≡ count
-        → AreNumbersOf n cells nodes arena.old es parts.items
-        → IfOk result (IsTermOf n cells nodes arena.new (kind_tree p kind.now)) }
+        → n.mode ≡ mode_in scope.entry → n.count ≡ count → AreNumbersOf n cells nodes arena.old es parts.items
+        → IfOk result (IsTermOf n cells nodes arena.new (truths_node p every es)) }
 {
     let needed = needed_parts(scope, arena, count, &parts)?;
-    match kind {
-        Kind::And(_) => judged(arena, Node::And(parts), needed),
-        Kind::Or(_) => judged(arena, Node::Or(parts), needed),
-        _ => unreachable!(),
+    if every {
+        judged(arena, Node::And(parts), needed)
+    } else {
+        judged(arena, Node::Or(parts), needed)
     }
 }

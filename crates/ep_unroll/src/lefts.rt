@@ -13,12 +13,12 @@ ghost use Rattle.ep_unroll.specs.Meanings.{AreTerms, Means, worth};
 ghost use Rattle.ep_unroll.specs.PartLists.{HaveTerms};
 ghost use Rattle.ep_unroll.specs.PartReads.{parts_worth};
 ghost use Rattle.ep_unroll.specs.Picks.{AreSlotsOf, slot_index};
-ghost use Rattle.ep_unroll.specs.Readings.{Numbering};
+ghost use Rattle.ep_unroll.specs.Readings.{Numbering, cells_value};
 
-use super::blocks::Block;
+use super::blocks::{Block, block_at};
 use super::entries::part_with;
 use super::needs::needed_terms;
-use super::reads::block_left;
+use super::reads::{cells_opened, leaves_all};
 use super::slots::Slot;
 use super::unrolled::Unrolled;
 use super::wholes::guarded;
@@ -49,7 +49,7 @@ pub fn opened_value<'a>(alloc: Global, value: &Value) -> Result<Unrolled<'a>, Me
 }
 
 /// What was evaluated, with its parts apart.
-fn opened_seen<'a>(alloc: Global, seen: &Option<Held<'_>>) -> Result<Unrolled<'a>, Memory>
+pub fn opened_seen<'a>(alloc: Global, seen: &Option<Held<'_>>) -> Result<Unrolled<'a>, Memory>
     ensures worth { IfOk result (λ x. (nodes : List GroundNode) → (numbers : List ℤ) → worth nodes numbers x ≡ seen_held seen.now) }
     ensures terms { IfOk result (λ x. (count : ℕ) → AreTerms count x) }
 {
@@ -87,7 +87,7 @@ pub fn copied<'a>(alloc: Global, known: &Unrolled<'a>) -> Result<Unrolled<'a>, M
 
 /// What indices leave of what was unrolled. Linear in its parts.
 #[cycle(leaving)]
-fn left_of<'a>(
+pub fn left_of<'a>(
     alloc: Global,
     known: &Unrolled<'a>,
     indices: &[Option<i64>],
@@ -104,12 +104,56 @@ fn left_of<'a>(
                     first: *first,
                     domains,
                 };
-                block_left(alloc, block, indices)
+                left_of_cells(alloc, block, *index, rest)
             }
             Unrolled::Fixed(seen) => left_of_seen(alloc, seen, *index, rest),
             Unrolled::Matrix(own, parts) => left_in(alloc, own, parts, *index, rest),
         },
         None => copied(alloc, known),
+    }
+}
+
+/// The same of cells.
+#[cycle(leaving)]
+fn left_of_cells<'a>(
+    alloc: Global,
+    block: Block<'a>,
+    index: Option<i64>,
+    rest: &[Option<i64>],
+) -> Result<Unrolled<'a>, Memory>
+    ensures worth { IfOk result (IsLeft (λ nodes numbers. cells_value numbers block.entry.domains.now block.entry.first) (index_in index ∷ indices_in rest.now)) }
+    ensures terms { IfOk result (λ x. (count : ℕ) → AreTerms count x) }
+{
+    match index {
+        Some(stated) => {
+            let part = block_at(block, stated)?;
+            match part {
+                Some(inner) => {
+                    let cells = Unrolled::Cells(inner.first, inner.domains);
+                    left_of(alloc, &cells, rest)
+                }
+                None => Ok(Unrolled::Fixed(None)),
+            }
+        }
+        None => {
+            if leaves_all(block, rest) {
+                return Ok(Unrolled::Cells(block.first, block.domains));
+            }
+            let split = block.domains.split_first();
+            match split {
+                Some((own, inner)) => {
+                    let whole = cells_opened(alloc, block.first, own, inner)?;
+                    match &whole {
+                        Unrolled::Matrix(indices, parts) => {
+                            left_of_each(alloc, indices, parts, rest)
+                        }
+                        _ => Err(Memory),
+                    }
+                }
+                // A number has no part.
+                None => Ok(Unrolled::Fixed(None)),
+            }
+        }
     }
 }
 

@@ -3,7 +3,7 @@
 ghost use Rattle.std.specs.Prelude.{◌≡◌, ◌==◌, pos, ℕ, ℤ, List, Some, None, IfOk, if◌then◌else◌, length, option_map};
 ghost use Rattle.ep_base.specs.Options.{on_both};
 ghost use Rattle.ep_base.specs.Runs.{counting};
-ghost use Rattle.ep_eval.specs.Literals.{index_at};
+ghost use Rattle.ep_forms.specs.Forms.{index_at};
 ghost use Rattle.ep_eval.specs.Scopes.{env_in, mode_in};
 ghost use Rattle.ep_ground.specs.Nodes.{GroundNode};
 ghost use Rattle.ep_tree.specs.Evaluation.{index_values};

@@ -20,9 +20,10 @@ ghost use Rattle.ep_unroll.specs.Meanings.{AreTerms, Means, worth};
 ghost use Rattle.ep_unroll.specs.Picks.{IsFreeIndex};
 ghost use Rattle.ep_unroll.specs.Readings.{Numbering, Reading, cells_value};
 
-use super::blocks::{Block, block_at, cells_over};
+use super::blocks::{Block, cells_over};
 use super::firsts::CellTable;
 use super::fixed::fixed_value;
+use super::lefts::left_of;
 use super::named::block_named;
 use super::unrolled::Unrolled;
 use ep_base::{Memory, Name, Runs};
@@ -68,47 +69,6 @@ fn fixed_indices(
     Ok(Some(numbers))
 }
 
-/// What indices leave of a block of cells. Where `..` stands, all parts are left.
-#[cycle(reading)]
-pub fn block_left<'a>(
-    alloc: Global,
-    block: Block<'a>,
-    indices: &[Option<i64>],
-) -> Result<Unrolled<'a>, Memory>
-    ensures worth { IfOk result (λ x. (nodes : List GroundNode) → (numbers : List ℤ) → (v : ValueTree)
-        → cells_value numbers block.entry.domains.now block.entry.first ≡ Some v
-        → IsWorth nodes numbers x (read_value (indices_in indices.now) v)) }
-    ensures terms { IfOk result (λ x. (count : ℕ) → AreTerms count x) }
-{
-    match indices.split_first() {
-        Some((index, rest)) => match index {
-            Some(stated) => part_left(alloc, block, *stated, rest),
-            None => parts_left(alloc, block, rest),
-        },
-        None => Ok(Unrolled::Cells(block.first, block.domains)),
-    }
-}
-
-/// What indices leave of the part with an index.
-#[cycle(reading)]
-fn part_left<'a>(
-    alloc: Global,
-    block: Block<'a>,
-    index: i64,
-    rest: &[Option<i64>],
-) -> Result<Unrolled<'a>, Memory>
-    ensures worth { IfOk result (λ x. (nodes : List GroundNode) → (numbers : List ℤ) → (v : ValueTree)
-        → cells_value numbers block.entry.domains.now block.entry.first ≡ Some v
-        → IsWorth nodes numbers x (read_value (index_in (Some index) ∷ indices_in rest.now) v)) }
-    ensures terms { IfOk result (λ x. (count : ℕ) → AreTerms count x) }
-{
-    let part = block_at(block, index)?;
-    match part {
-        Some(inner) => block_left(alloc, inner, rest),
-        None => Ok(Unrolled::Fixed(None)),
-    }
-}
-
 /// Whether each of some indices is `..`.
 fn are_every(indices: &[Option<i64>]) -> bool
     ensures { result ≡ true → indices_in indices.now ≡ map (λ i. any_index) indices.now }
@@ -123,7 +83,7 @@ fn are_every(indices: &[Option<i64>]) -> bool
 }
 
 /// Whether indices are `..` alone, and leave a block as it is.
-fn leaves_all(block: Block<'_>, rest: &[Option<i64>]) -> bool
+pub fn leaves_all(block: Block<'_>, rest: &[Option<i64>]) -> bool
     ensures { result ≡ true → (numbers : List ℤ) → (v : ValueTree) → cells_value numbers block.entry.domains.now block.entry.first ≡ Some v
         → read_value (any_index ∷ indices_in rest.now) v ≡ Some v }
 {
@@ -135,39 +95,14 @@ fn leaves_all(block: Block<'_>, rest: &[Option<i64>]) -> bool
     are_every(rest)
 }
 
-/// What indices leave of each part behind `..`.
-#[cycle(reading)]
-fn parts_left<'a>(
-    alloc: Global,
-    block: Block<'a>,
-    rest: &[Option<i64>],
-) -> Result<Unrolled<'a>, Memory>
-    ensures worth { IfOk result (λ x. (nodes : List GroundNode) → (numbers : List ℤ) → (v : ValueTree)
-        → cells_value numbers block.entry.domains.now block.entry.first ≡ Some v
-        → IsWorth nodes numbers x (read_value (any_index ∷ indices_in rest.now) v)) }
-    ensures terms { IfOk result (λ x. (count : ℕ) → AreTerms count x) }
-{
-    if leaves_all(block, rest) {
-        return Ok(Unrolled::Cells(block.first, block.domains));
-    }
-    match block.domains.split_first() {
-        Some((own, inner)) => each_left(alloc, block.first, own, inner, rest),
-        None => Ok(Unrolled::Fixed(None)),
-    }
-}
-
-/// What indices leave of each part of cells: one for each number of the first index domain, with this number as its index.
-#[cycle(reading)]
-fn each_left<'a>(
+/// Cells over index domains as the parts of a matrix: one part for each number of the first index domain.
+pub fn cells_opened<'a>(
     alloc: Global,
     first: u64,
     own: &Runs,
     inner: &'a [Runs],
-    rest: &[Option<i64>],
 ) -> Result<Unrolled<'a>, Memory>
-    ensures worth { IfOk result (λ x. (nodes : List GroundNode) → (numbers : List ℤ) → (v : ValueTree)
-        → cells_value numbers (own.now ∷ inner.now) first ≡ Some v
-        → IsWorth nodes numbers x (read_value (any_index ∷ indices_in rest.now) v)) }
+    ensures worth { IfOk result (λ x. (nodes : List GroundNode) → (numbers : List ℤ) → worth nodes numbers x ≡ cells_value numbers (own.now ∷ inner.now) first) }
     ensures terms { IfOk result (λ x. (count : ℕ) → AreTerms count x) }
 {
     let each = cells_over(inner)?;
@@ -176,13 +111,8 @@ fn each_left<'a>(
     let mut cell = first;
     let mut walk = walk_of(own.runs());
     while let Some((number, behind)) = next_number(walk) {
-        let block = Block {
-            first: cell,
-            domains: inner,
-        };
-        let part = block_left(alloc, block, rest)?;
         indices.push(number)?;
-        parts.push(part)?;
+        parts.push(Unrolled::Cells(cell, inner))?;
         let Some(more) = cell.checked_add(each) else {
             return Err(Memory);
         };
@@ -277,7 +207,8 @@ pub fn read_named<'a>(
     let numbers = fixed_indices(scope, indices)?;
     match numbers {
         Some(numbers) => {
-            let left = block_left(scope.alloc, block, &numbers)?;
+            let cells = Unrolled::Cells(block.first, block.domains);
+            let left = left_of(scope.alloc, &cells, &numbers)?;
             finish_read(scope, ty, left)
         }
         None => finish_read(scope, ty, Unrolled::Fixed(None)),

@@ -1,113 +1,51 @@
 //! The scalars of what was unrolled as terms, row by row.
 
-ghost use Rattle.std.specs.Prelude.{[], List, OnOk, IfOk, Some, length};
-ghost use Rattle.ep_eval.specs.Helds.{seen_held};
+ghost use Rattle.std.specs.Prelude.{IfOk, List, length, map};
+ghost use Rattle.ep_base.specs.Reads.{all_there};
 ghost use Rattle.ep_ground.specs.Nodes.{GroundNode};
 ghost use Rattle.ep_tree.specs.Environments as names;
-ghost use Rattle.ep_tree.specs.Evaluation.{scalars_in};
+ghost use Rattle.ep_tree.specs.Evaluation.{number_in, scalars_in};
 ghost use Rattle.ep_tree.specs.Trees.{ExprTree};
 ghost use Rattle.ep_unroll.specs.Meanings.{AreTerms, Means, worth};
-ghost use Rattle.ep_unroll.specs.PartLists.{AddsScalars};
+ghost use Rattle.ep_unroll.specs.PartLists.{HaveScalars, HaveTerms};
 ghost use Rattle.ep_unroll.specs.Readings.{Numbering};
-ghost use Rattle.ep_unroll.specs.Scalars.{AreScalarsOf, cells_from};
-ghost use Rattle.ep_base.specs.Reads.{all_there};
+ghost use Rattle.ep_unroll.specs.Scalars.{AreScalarsOf};
 
-use super::blocks::cells_over;
-use super::fixed_lists::seen_scalars;
-use super::growing::put;
+use super::flattening::flat_scalars;
+use super::numbers::scalar_term;
 use super::unrolled::Unrolled;
 use ep_base::Memory;
-use ep_eval::Held;
-use ep_ground::{Arena, Node, Term};
+use ep_ground::{Arena, Term};
 use std::alloc::Global;
 
-/// Puts the terms of some numbers behind others.
-fn push_numbers(arena: &mut Arena, terms: &mut Vec<Term>, list: &[i64]) -> Result<(), Memory>
-    ensures { OnOk result (AddsScalars arena.old arena.new terms.old.items terms.new.items (λ numbers. Some list.now)) }
-{
-    for number in list {
-        let term = put(arena, Node::Const(*number))?;
-        terms.push(term)?;
-    }
-    Ok(())
-}
-
-/// The same of the scalars of what was seen. Where there is no value, it is a term without one.
-fn push_seen(
+/// The terms of some scalars, one for each.
+fn each_term(
     alloc: Global,
     arena: &mut Arena,
-    terms: &mut Vec<Term>,
-    seen: &Option<Held>,
-) -> Result<(), Memory>
-    ensures { OnOk result (AddsScalars arena.old arena.new terms.old.items terms.new.items (λ numbers. scalars_in (seen_held seen.now))) }
+    scalars: &[Unrolled<'_>],
+) -> Result<Vec<Term>, Memory>
+    requires { HaveTerms (length arena.old) scalars.now }
+    ensures { IfOk result (λ ts. HaveScalars arena.old arena.new (λ numbers. all_there (map (λ x. number_in (worth arena.old numbers x)) scalars.now)) ts.items) }
 {
-    let list = seen_scalars(alloc, seen)?;
-    match list {
-        Some(list) => push_numbers(arena, terms, &list),
-        None => {
-            let term = put(arena, Node::Undefined)?;
-            terms.push(term)?;
-            Ok(())
-        }
-    }
-}
-
-/// Puts the terms of so many cells behind others, from one on.
-fn push_cells(
-    arena: &mut Arena,
-    terms: &mut Vec<Term>,
-    first: u64,
-    count: u64,
-) -> Result<(), Memory>
-    ensures { OnOk result (AddsScalars arena.old arena.new terms.old.items terms.new.items (λ numbers. all_there (cells_from numbers first count))) }
-{
-    for passed in 0..count {
-        let Some(cell) = first.checked_add(passed) else {
-            return Err(Memory);
-        };
-        let term = put(arena, Node::Cell(cell))?;
+    let mut terms = Vec::new(alloc);
+    for scalar in scalars {
+        let term = scalar_term(arena, scalar)?;
         terms.push(term)?;
     }
-    Ok(())
-}
-
-/// Puts the terms of the scalars of what was unrolled behind others.
-fn push_scalars(
-    alloc: Global,
-    arena: &mut Arena,
-    terms: &mut Vec<Term>,
-    known: &Unrolled,
-) -> Result<(), Memory>
-    ensures { OnOk result (AreTerms (length arena.old) known.now
-        → AddsScalars arena.old arena.new terms.old.items terms.new.items (λ numbers. scalars_in (worth arena.old numbers known.now))) }
-{
-    match known {
-        Unrolled::Number(term) => {
-            terms.push(*term)?;
-            Ok(())
-        }
-        Unrolled::Cells(first, domains) => {
-            let count = cells_over(domains)?;
-            push_cells(arena, terms, *first, count)
-        }
-        Unrolled::Fixed(seen) => push_seen(alloc, arena, terms, seen),
-        Unrolled::Matrix(_, parts) => {
-            for part in parts {
-                push_scalars(alloc, arena, terms, part)?;
-            }
-            Ok(())
-        }
-    }
+    Ok(terms)
 }
 
 /// The terms of the scalars of what was unrolled.
-pub fn scalar_terms(alloc: Global, arena: &mut Arena, known: &Unrolled) -> Result<Vec<Term>, Memory>
+pub fn scalar_terms(
+    alloc: Global,
+    arena: &mut Arena,
+    known: &Unrolled<'_>,
+) -> Result<Vec<Term>, Memory>
     requires { AreTerms (length arena.old) known.now }
-    ensures { IfOk result (λ ts. AddsScalars arena.old arena.new [] ts.items (λ numbers. scalars_in (worth arena.old numbers known.now))) }
+    ensures { IfOk result (λ ts. HaveScalars arena.old arena.new (λ numbers. scalars_in (worth arena.old numbers known.now)) ts.items) }
 {
-    let mut terms = Vec::new(alloc);
-    push_scalars(alloc, arena, &mut terms, known)?;
-    Ok(terms)
+    let scalars = flat_scalars(alloc, known)?;
+    each_term(alloc, arena, &scalars)
 }
 
 /// The terms of the scalars of what isn't used any more.

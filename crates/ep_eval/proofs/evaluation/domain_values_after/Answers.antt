@@ -23,5 +23,5 @@ returns-in_err-values-clause-cause c =
 pub returns-clause-values : goal.returns-clause-values
 unfolding with_all
 returns-clause-values c =
-    counted_domain_is c.args.env.now.mode c.args.before c.numbers_of.new.met (env_of c.args.env.now) (domain_tree c.args.d.now) c.in_ok-values.values
+    counted_domain_is c.args.env.now.mode c.args.before c.numbers_after.new.met (env_of c.args.env.now) (domain_tree c.args.d.now) c.in_ok-values.values
     c.in_ok-values.ensures.counted (sym c.in_ok-values.ensures.value)

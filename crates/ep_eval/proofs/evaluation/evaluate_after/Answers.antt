@@ -16,5 +16,5 @@ returns-in_err-seen-clause-cause c =
 pub returns-clause-value : goal.returns-clause-value
 unfolding with_all
 returns-clause-value c =
-    counted_value_is c.args.env.now.mode c.args.before c.value_of.new.met (env_of c.args.env.now) (expr_tree c.args.e.now) (seen_value c.in_ok-given.given)
+    counted_value_is c.args.env.now.mode c.args.before c.value_after.new.met (env_of c.args.env.now) (expr_tree c.args.e.now) (seen_value c.in_ok-given.given)
     c.in_ok-seen.ensures.counted (c.in_ok-seen.ensures.value ∙ sym c.in_ok-given.ensures)

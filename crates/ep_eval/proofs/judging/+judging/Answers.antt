@@ -20,7 +20,7 @@ use Rattle.ep_eval.proofs.DomainTypes.{at-group_domain, at-in_domain, at-literal
 use Rattle.ep_eval.proofs.ReadSteps.{given}
 use Rattle.ep_eval.proofs.JudgingForms.{at-absolute, at-all_different, at-all_of, at-any_of, at-at_least, at-at_most, at-binary, at-chain, at-compare, at-factorial, at-flatten, at-folded, at-gcc, at-group, at-in_set, at-lex, at-minus, at-negation, at-number, at-read, at-table, at-to_int, at-truth, both_pass, count_form, first_all, index_every, index_stated, indices_none, indices_one, one_form, parts_none, parts_one, pass_ends, pass_more, terms_none, terms_one, two_form}
 use Rattle.ep_eval.specs.Judging.{all_pass, domain_type_at, flattened, fold_part, join_part, list_of, matrix_over, name_scalar, passes, read_of, set_of_both, type_at, type_if}
-use Rattle.ep_eval.specs.Literals.{index_at}
+use Rattle.ep_forms.specs.Forms.{index_at}
 use Rattle.ep_eval.specs.declared.rules.Wanted.{Wanted}
 use Rattle.ep_eval.proofs.judging.+judging.Goals as goal
 

@@ -1,34 +1,21 @@
-use Rattle.std.proofs.Common.{subst, arith}
-use Rattle.std.proofs.lemmas.List.{take_all}
-use Rattle.std.proofs.lemmas.Result.{err_from_is_err_and}
+use Rattle.std.proofs.Common.{◌+◌, ◌∷◌, ℕ, List, ap, drop, sym, ◌∙◌}
+use Rattle.std.proofs.lemmas.List.{drop_all, drop_more}
+use Rattle.ep_tree.specs.declared.syntax.Expr.{Expr}
 use Rattle.ep_eval.specs.Known.{env_of}
-use Rattle.ep_tree.specs.Binding.{met_in}
-use Rattle.ep_size.proofs.ClauseSteps.{clause_measured, clause_refused, met_clauses}
-use Rattle.ep_size.proofs.Measurings.{measured_none}
-use Rattle.ep_size.specs.Totals.{Measured}
+use Rattle.ep_size.proofs.ClauseSteps.{clauses_begin, clauses_end, clauses_more}
 use Rattle.ep_size.proofs.expressions.measure_all.Goals as goal
 
 pub loop-clause-init : goal.loop-clause-init
-unfolding met_in
-loop-clause-init c = measured_none c.args.env.now.mode c.args.totals.now
+loop-clause-init c = clauses_begin c.args.env.now.mode (env_of c.args.env.now) c.args.totals.now c.args.clauses.now
 
 pub loop-clause-preserved : goal.loop-clause-preserved
 loop-clause-preserved c =
-    let env = c.args.env.now in
-    clause_measured env.mode (env_of env) c.args.totals.now c.loop-clause.totals c.measure_one.new.totals c.args.clauses.now c.loop-clause.clause-index
-    c.clause-item.result _ c.loop-clause-test.true c.clause-item.is c.loop-clause.invariant c.in_ok-measure_one.ensures.measured
+    let xs : List Expr = c.args.clauses.now in
+    let k : ℕ = c.loop-clause.clause-index in
+    clauses_more c.args.env.now.mode (env_of c.args.env.now) c.args.totals.now c.loop-clause.totals c.measure_one.new.totals xs _ c.clause-item.result (drop (k + 1) xs) c.loop-clause.invariant
+    (drop_more xs k _ c.loop-clause-test.true ∙ ap (λ y. y ∷ drop (k + 1) xs) (sym c.clause-item.is)) c.in_ok-measure_one.ensures
 
-pub returns-in_err-measure_one-clause-cause : goal.returns-in_err-measure_one-clause-cause
-returns-in_err-measure_one-clause-cause c =
-    let env = c.args.env.now in
-    let p = err_from_is_err_and c.from_residual.result c.from_residual.ensures.1 in
-    rw (p.1, p.2)
-    (clause_refused env.mode (env_of env) c.args.totals.now c.loop-clause.totals c.args.clauses.now c.loop-clause.clause-index
-    c.clause-item.result _ c.in_err-measure_one.field-0.0 c.loop-clause-test.true c.clause-item.is c.loop-clause.invariant c.in_err-measure_one.ensures.cause)
-
-pub returns-clause-measured : goal.returns-clause-measured
-returns-clause-measured c =
-    let env = c.args.env.now in
-    let clauses = c.args.clauses.now in
-    subst (λ xs. Measured env.mode c.args.totals.now c.loop-clause.totals (met_clauses env.mode (env_of env) xs))
-    (take_all c.loop-clause.clause-index clauses (omega (arith, c.loop-clause-test.false))) c.loop-clause.invariant
+pub returns : goal.returns
+returns c =
+    let xs : List Expr = c.args.clauses.now in
+    clauses_end c.args.env.now.mode (env_of c.args.env.now) c.args.totals.now c.loop-clause.totals xs _ c.loop-clause.invariant (drop_all c.loop-clause.clause-index xs c.loop-clause-test.false)

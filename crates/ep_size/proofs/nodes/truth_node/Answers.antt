@@ -9,4 +9,4 @@ use Rattle.ep_size.proofs.nodes.truth_node.Goals as goal
 pub returns : goal.returns
 unfolding is_too_far farthest_end absolute_of
 returns c mode env e w h node =
-    number_finished mode env e w truth_span c.args.totals.now c.weigh.new.totals c.truth_span.result node c.truth_span.ensures refl (c.weigh.ensures w h)
+    number_finished mode env e w truth_span c.args.total.now c.weigh.new.total c.truth_span.result node c.truth_span.ensures refl (c.weigh.ensures w h)

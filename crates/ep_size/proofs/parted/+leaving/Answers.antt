@@ -7,7 +7,7 @@ use Rattle.ep_tree.specs.Reach.{fixed_span}
 use Rattle.ep_tree.specs.Values.{filled, matrix, part_at, read_value}
 use Rattle.ep_size.proofs.ExtentViews.{grid_of-matrix}
 use Rattle.ep_size.proofs.PartedSteps.{left_begin, left_done, left_more, left_none, nothing_read, number_read, part_read, stated_nowhere, stated_read}
-use Rattle.ep_size.proofs.QuantifiedSteps.{if_ok}
+use Rattle.ep_size.proofs.ListNodes.{if_ok}
 use Rattle.ep_size.specs.Extents.{grid_of, grids_from, plain_span}
 use Rattle.ep_size.specs.Indices.{measured_of}
 use Rattle.ep_size.specs.Slices.{ReadsGrid}

@@ -2,7 +2,7 @@ use Rattle.std.proofs.Common.{◌≡◌, ◌∙◌, ap, arith, sym, w64, to_z, o
 use Rattle.std.proofs.lemmas.Int.{ints, to_z-of_z}
 use Rattle.ep_eval.specs.Helds.{held_value}
 use Rattle.ep_tree.specs.Values.{single}
-use Rattle.ep_size.proofs.QuantifiedSteps.{if_ok}
+use Rattle.ep_size.proofs.ListNodes.{if_ok}
 use Rattle.ep_size.specs.Extents.{fixed_grid, grid_of}
 use Rattle.ep_size.proofs.parted.opened_held.Goals as goal
 

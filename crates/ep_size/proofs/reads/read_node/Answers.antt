@@ -17,4 +17,4 @@ returns-in-Ok c mode env p m is holds known told typed named =
     (subst (λ r. IfOk r (λ l. Hulls l (flat_map scalars_of (parts_left ms (grid_of c.args.known.now))))) c.in-Ok.is c.left_of.ensures.left))
 
 pub returns-in-None : goal.returns-in-None
-returns-in-None c mode env p m is holds known told typed named = c.slice_node.ensures mode env p m is c.args.totals.now holds known told typed
+returns-in-None c mode env p m is holds known told typed named = c.slice_node.ensures mode env p m is c.args.total.now holds known told typed

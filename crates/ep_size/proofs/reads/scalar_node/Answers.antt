@@ -29,7 +29,7 @@ returns-in-Err c mode env p m is holds told typed named h =
     let ms = map measured_of c.args.indices.now in
     let spans = left_of ms (extent mode env m) in
     let own = read_span c.gives_cell-of_cell.result c.args.scalar spans in
-    number_refused mode env (read p m is) (read_weight ms own spans) own c.args.totals.now c.args.totals.now c.in-Err.refused
+    number_refused mode env (read p m is) (read_weight ms own spans) own c.args.total.now c.args.total.now c.in-Err.refused
     (read_number mode env p m is ms c.gives_cell-of_cell.result c.args.scalar holds told typed
     (c.gives_cell-of_cell.ensures ∙ ap (λ b. b && not c.one_decided-decided.result) named ∙ ap (λ b. is_decision_name env m && not b) c.one_decided-decided.ensures))
     (subst (λ r. Gives r own) c.in-Err.is (c.span.ensures spans h))

@@ -1,7 +1,7 @@
 use Rattle.std.proofs.Common.{ap, arith, length, refl, subst, sym, w64, ◌∙◌, ◌∷◌, ◌++◌, [], ◌≡◌, to_z, of_z}
 use Rattle.std.proofs.lemmas.Int.{ints, to_z-of_z}
 use Rattle.ep_eval.specs.Walking.{IsWalkBehind, before_rest, numbers_left}
-use Rattle.ep_size.proofs.QuantifiedSteps.{if_ok}
+use Rattle.ep_size.proofs.ListNodes.{if_ok}
 use Rattle.ep_size.proofs.SliceParts.{each_all, each_begins, each_more, each_none, every_reads, kept_part, none_reads, one_reads}
 use Rattle.ep_size.specs.Extents.{grid_of}
 use Rattle.ep_size.specs.Indices.{measured_of}

@@ -2,7 +2,7 @@ use Rattle.std.proofs.Common.{ap, map, subst, sym, ◌∙◌}
 use Rattle.ep_tree.specs.Measures.{number_reach}
 use Rattle.ep_tree.specs.Reach.{slice_extent}
 use Rattle.ep_tree.specs.Values.{filled}
-use Rattle.ep_size.proofs.QuantifiedSteps.{if_ok}
+use Rattle.ep_size.proofs.ListNodes.{if_ok}
 use Rattle.ep_size.proofs.SliceParts.{slice_none, slice_read, slice_untold}
 use Rattle.ep_size.specs.Extents.{plain_span}
 use Rattle.ep_size.specs.Indices.{measured_of}

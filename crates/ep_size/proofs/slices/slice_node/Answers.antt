@@ -2,8 +2,7 @@ use Rattle.std.proofs.Common.{Ok, map, refl, subst, sym, ◌∙◌}
 use Rattle.std.specs.Prelude.{IfSome}
 use Rattle.ep_tree.specs.Trees.{read}
 use Rattle.ep_tree.specs.Values.{filled}
-use Rattle.ep_size.proofs.ListNodes.{lists_finish}
-use Rattle.ep_size.proofs.QuantifiedSteps.{if_ok}
+use Rattle.ep_size.proofs.ListNodes.{if_ok, lists_finish}
 use Rattle.ep_size.proofs.SliceParts.{apart_finishes}
 use Rattle.ep_size.proofs.SliceSteps.{cells_are, cells_listed, slice_node}
 use Rattle.ep_size.specs.Extents.{grid_of, plain_span}

@@ -4,7 +4,7 @@ use Rattle.ep_tree.proofs.ViewLemmas.{kind_tree-all_of, kind_tree-any_of, kind_t
 use Rattle.ep_tree.specs.Reach.{decisions_in, generator_names, hiding, holds_decision}
 use Rattle.ep_tree.specs.Views.{domain_kind_tree, domain_tree, domains_of, end_of, expr_tree, expr_trees, generators_of, indices_of, kind_tree, ranges_of, terms_of}
 use Rattle.ep_eval.proofs.DomainTypes.{index_is}
-use Rattle.ep_eval.specs.Literals.{index_at}
+use Rattle.ep_forms.specs.Forms.{index_at}
 use Rattle.ep_eval.specs.Ranges.{alone}
 use Rattle.ep_tree.specs.Trees.{no_ranges}
 use Rattle.ep_eval.specs.Scopes.{env_in}

@@ -1,6 +1,6 @@
 use Rattle.std.proofs.Common.{ap, length, refl, sym, ◌∙◌}
 use Rattle.ep_base.specs.Options.{on_both}
-use Rattle.ep_eval.specs.Literals.{index_at}
+use Rattle.ep_forms.specs.Forms.{index_at}
 use Rattle.ep_eval.specs.Scopes.{env_in}
 use Rattle.ep_tree.specs.Evaluation.{index_values}
 use Rattle.ep_tree.specs.Values.{all_defined, with_indices}

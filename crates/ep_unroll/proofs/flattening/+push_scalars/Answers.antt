@@ -2,9 +2,8 @@ use Rattle.std.proofs.Common.{◌≡◌, ◌+◌, ◌∷◌, [], ℕ, List, drop
 use Rattle.std.proofs.lemmas.List.{drop_all, drop_more}
 use Rattle.ep_base.specs.Reads.{all_there}
 use Rattle.ep_tree.specs.Evaluation.{scalars_in}
-use Rattle.ep_unroll.proofs.FlatSteps.{flat_from, flat_same, flat_term, parts_flat_all, parts_flat_begin, parts_flat_more}
+use Rattle.ep_unroll.proofs.FlatSteps.{flat_from, flat_same, flat_term, on_ok, parts_flat_all, parts_flat_begin, parts_flat_more}
 use Rattle.ep_unroll.proofs.MatrixSteps.{cells_scalars}
-use Rattle.ep_unroll.proofs.ScalarSteps.{on_ok}
 use Rattle.ep_unroll.specs.Flats.{AddsParts}
 use Rattle.ep_unroll.specs.Meanings.{worth}
 use Rattle.ep_unroll.specs.PartLists.{HaveTerms}

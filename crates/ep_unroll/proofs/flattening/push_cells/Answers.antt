@@ -1,7 +1,6 @@
 use Rattle.std.proofs.Common.{◌+◌, [], arith, ap}
 use Rattle.ep_base.specs.Reads.{all_there}
-use Rattle.ep_unroll.proofs.FlatSteps.{flat_begins, flat_cell, flat_ends, flat_more}
-use Rattle.ep_unroll.proofs.ScalarSteps.{cells_cut, cells_end, cells_first, cells_left}
+use Rattle.ep_unroll.proofs.FlatSteps.{cells_cut, cells_end, cells_first, cells_left, flat_begins, flat_cell, flat_ends, flat_more}
 use Rattle.ep_unroll.specs.Meanings.{AreTerms, worth}
 use Rattle.ep_unroll.specs.Readings.{cells_value}
 use Rattle.ep_unroll.specs.Scalars.{cells_from}

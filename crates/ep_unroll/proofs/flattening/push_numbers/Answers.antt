@@ -1,8 +1,7 @@
 use Rattle.std.proofs.Common.{◌+◌, [], ◌∷◌, Some, drop, get_or, pos, refl, w64, ap, rules}
 use Rattle.std.proofs.lemmas.Int.{to_z-of_z}
 use Rattle.std.proofs.lemmas.List.{drop_all}
-use Rattle.ep_unroll.proofs.FlatSteps.{flat_begins, flat_ends, flat_more, flat_number}
-use Rattle.ep_unroll.proofs.ScalarSteps.{numbers_cut}
+use Rattle.ep_unroll.proofs.FlatSteps.{flat_begins, flat_ends, flat_more, flat_number, numbers_cut}
 use Rattle.ep_unroll.proofs.flattening.push_numbers.Goals as goal
 
 pub loop-number-init : goal.loop-number-init

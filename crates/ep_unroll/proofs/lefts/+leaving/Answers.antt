@@ -7,13 +7,15 @@ use Rattle.ep_tree.specs.Values.{index_in, indices_in, read_value}
 use Rattle.ep_unroll.proofs.EntrySteps.{part_terms}
 use Rattle.ep_unroll.proofs.FormValues.{if_ok}
 use Rattle.ep_unroll.proofs.GrownParts.{matrix_terms, matrix_worth}
-use Rattle.ep_unroll.proofs.LeftSteps.{left_begin, left_done, left_more, left_nowhere, left_part, left_terms, nothing_seen, number_left}
-use Rattle.ep_unroll.proofs.PartSteps.{is_worth}
+use Rattle.ep_unroll.proofs.LeftSteps.{left_begin, left_done, left_more, left_nowhere, left_part, left_terms, nothing_of_number, nothing_seen, number_left, some_worth}
+use Rattle.ep_unroll.proofs.PartSteps.{inner_left, nothing_left}
+use Rattle.ep_unroll.specs.Blocks.{IsWorth, block_under}
 use Rattle.ep_unroll.specs.Lefts.{IsLeft}
 use Rattle.ep_unroll.specs.Meanings.{AreTerms, worth}
 use Rattle.ep_unroll.specs.PartLists.{HaveTerms}
 use Rattle.ep_unroll.specs.PartReads.{part_with, parts_worth}
-use Rattle.ep_unroll.specs.declared.unrolled.Unrolled.{Unrolled, Fixed}
+use Rattle.ep_unroll.specs.Readings.{cells_value}
+use Rattle.ep_unroll.specs.declared.unrolled.Unrolled.{Unrolled, Cells, Fixed}
 use Rattle.ep_unroll.proofs.lefts.+leaving.Goals as goal
 
 pub left_at-returns-in-Some-clause-worth : goal.left_at-returns-in-Some-clause-worth
@@ -34,7 +36,7 @@ left_at-returns-in-Some-clause-terms t c =
     if_ok c.left_of.result _ _ (λ x h count known. h count (part_terms count own parts c.args.index c.in-Some.part.now known some)) c.left_of.ensures.terms
 
 pub left_at-returns-in-None-clause-worth : goal.left_at-returns-in-None-clause-worth
-unfolding index_in worth
+unfolding index_in worth IsWorth
 left_at-returns-in-None-clause-worth t c =
     let own = c.args.own.now in
     let parts = c.args.parts.now in
@@ -64,9 +66,82 @@ left_of-returns-in-Number-clause-terms t c count known = tt
 pub left_of-returns-in-Cells-clause-worth : goal.left_of-returns-in-Cells-clause-worth
 unfolding worth
 left_of-returns-in-Cells-clause-worth t c =
-    if_ok c.block_left.result _ _
-    (λ x h. subst (λ y. IsLeft (λ nodes numbers. worth nodes numbers y) (indices_in c.args.indices.now) x) (sym c.in-Cells.is)
-    (λ nodes numbers v e. is_worth nodes numbers x (read_value (indices_in c.args.indices.now) v) (h nodes numbers v e))) c.block_left.ensures.worth
+    if_ok c.left_of_cells.result _ _
+    (λ x h. subst (λ is. IsLeft (λ nodes numbers. worth nodes numbers c.args.known.now) (indices_in is) x) (sym c.in-Some.ensures.cases.0)
+    (subst (λ y. IsLeft (λ nodes numbers. worth nodes numbers y) (index_in c.in-Some.index.now ∷ indices_in c.in-Some.rest.now) x) (sym c.in-Cells.is) h)) c.left_of_cells.ensures.worth
+
+pub left_of_cells-returns-in-Some-part-clause-worth : goal.left_of_cells-returns-in-Some-part-clause-worth
+unfolding index_in worth
+left_of_cells-returns-in-Some-part-clause-worth t c =
+    let b = c.args.block in
+    let i = c.in-Some.stated in
+    let rest = indices_in c.args.rest.now in
+    let index : to_z w64 (of_z w64 i) ≡ i = to_z-of_z w64 i (omega (arith, ints)) in
+    let some = ap (option_map (λ part. (part.first, part.domains.now))) (sym c.in-Some-part.is) ∙ c.in_ok-part-in-Some.ensures ∙ ap (block_under b.first b.domains.now) index in
+    if_ok c.left_of.result _ _
+    (λ x h. subst (λ j. IsLeft (λ nodes numbers. cells_value numbers b.domains.now b.first) (index_in j ∷ rest) x) (sym c.in-Some.is)
+    (λ nodes numbers v e. inner_left nodes numbers b.first b.domains.now i v rest x c.in-Some-part.inner.first c.in-Some-part.inner.domains.now e some (h nodes numbers))) c.left_of.ensures.worth
+
+pub left_of_cells-returns-in-Some-part-clause-terms : goal.left_of_cells-returns-in-Some-part-clause-terms
+unfolding AreTerms
+left_of_cells-returns-in-Some-part-clause-terms t c = if_ok c.left_of.result _ _ (λ x h count. h count tt) c.left_of.ensures.terms
+
+pub left_of_cells-returns-in-Some-clause-worth : goal.left_of_cells-returns-in-Some-clause-worth
+unfolding index_in
+left_of_cells-returns-in-Some-clause-worth t c =
+    let b = c.args.block in
+    let i = c.in-Some.stated in
+    let rest = indices_in c.args.rest.now in
+    let index : to_z w64 (of_z w64 i) ≡ i = to_z-of_z w64 i (omega (arith, ints)) in
+    subst (λ j. IsLeft (λ nodes numbers. cells_value numbers b.domains.now b.first) (index_in j ∷ rest) (Fixed None)) (sym c.in-Some.is)
+    (λ nodes numbers v e. nothing_left nodes numbers b.first b.domains.now i v rest (Fixed None) e
+    (ap (option_map (λ part. (part.first, part.domains.now))) (sym c.in-None-part.is) ∙ c.in_ok-part-in-Some.ensures ∙ ap (block_under b.first b.domains.now) index) refl)
+
+pub left_of_cells-returns-in-Some-clause-terms : goal.left_of_cells-returns-in-Some-clause-terms
+unfolding AreTerms
+left_of_cells-returns-in-Some-clause-terms t c count = tt
+
+pub left_of_cells-returns-then-leaves_all-clause-worth : goal.left_of_cells-returns-then-leaves_all-clause-worth
+unfolding index_in IsWorth
+left_of_cells-returns-then-leaves_all-clause-worth t c =
+    let b = c.args.block in
+    subst (λ j. IsLeft (λ nodes numbers. cells_value numbers b.domains.now b.first) (index_in j ∷ indices_in c.args.rest.now) (Cells b.first b.domains)) (sym c.in-None.is)
+    (λ nodes numbers v e. (v, c.leaves_all.ensures c.if-leaves_all.true numbers v e, e))
+
+pub left_of_cells-returns-then-leaves_all-clause-terms : goal.left_of_cells-returns-then-leaves_all-clause-terms
+unfolding AreTerms
+left_of_cells-returns-then-leaves_all-clause-terms t c count = tt
+
+pub left_of_cells-returns-in-Matrix-clause-worth : goal.left_of_cells-returns-in-Matrix-clause-worth
+unfolding index_in
+left_of_cells-returns-in-Matrix-clause-worth t c =
+    let b = c.args.block in
+    let own = c.in-Matrix.indices in
+    let parts = c.in-Matrix.parts in
+    if_ok c.left_of_each.result _ _
+    (λ x h. subst (λ j. IsLeft (λ nodes numbers. cells_value numbers b.domains.now b.first) (index_in j ∷ indices_in c.args.rest.now) x) (sym c.in-None.is)
+    (λ nodes numbers v e. h nodes numbers v
+    (ap (λ l. parts_worth l nodes numbers c.deref-in-Matrix.result.now) c.deref.ensures.value ∙ ap (parts_worth own.items nodes numbers) c.deref-in-Matrix.ensures.value
+    ∙ sym (ap (worth nodes numbers) c.in-Matrix.is ∙ matrix_worth nodes numbers own parts) ∙ c.in_ok-whole-in-Some-split.ensures.worth nodes numbers
+    ∙ ap (λ ds. cells_value numbers ds b.first) (sym c.in-Some-split.ensures.cases.0) ∙ e))) c.left_of_each.ensures.worth
+
+pub left_of_cells-returns-in-Matrix-clause-terms : goal.left_of_cells-returns-in-Matrix-clause-terms
+left_of_cells-returns-in-Matrix-clause-terms t c =
+    if_ok c.left_of_each.result _ _
+    (λ x h count. h count
+    (subst (HaveTerms count) (sym c.deref-in-Matrix.ensures.value) (matrix_terms count c.in-Matrix.indices c.in-Matrix.parts (subst (AreTerms count) c.in-Matrix.is (c.in_ok-whole-in-Some-split.ensures.terms count)))))
+    c.left_of_each.ensures.terms
+
+pub left_of_cells-returns-clause-worth : goal.left_of_cells-returns-clause-worth
+unfolding index_in IsWorth
+left_of_cells-returns-clause-worth t c =
+    let b = c.args.block in
+    subst (λ j. IsLeft (λ nodes numbers. cells_value numbers b.domains.now b.first) (index_in j ∷ indices_in c.args.rest.now) (Fixed None)) (sym c.in-None.is)
+    (λ nodes numbers v e. nothing_of_number nodes numbers b.domains.now b.first v (indices_in c.args.rest.now) None (no_runs b.domains.now c.in-None-split.ensures.cases) e refl)
+
+pub left_of_cells-returns-clause-terms : goal.left_of_cells-returns-clause-terms
+unfolding AreTerms
+left_of_cells-returns-clause-terms t c count = tt
 
 pub left_of-returns-in-Fixed-clause-worth : goal.left_of-returns-in-Fixed-clause-worth
 unfolding worth
@@ -94,7 +169,9 @@ left_of-returns-in-Matrix-clause-terms t c =
 pub left_of-returns-in-None-clause-worth : goal.left_of-returns-in-None-clause-worth
 unfolding read_value
 left_of-returns-in-None-clause-worth t c =
-    if_ok c.copied.result _ _ (λ x h nodes numbers v e. h nodes numbers ∙ e ∙ ap (λ is. read_value (indices_in is) v) (sym (no_runs c.args.indices.now c.in-None.ensures.cases))) c.copied.ensures.worth
+    if_ok c.copied.result _ _
+    (λ x h nodes numbers v e. subst (IsWorth nodes numbers x) (ap (λ is. read_value (indices_in is) v) (sym (no_runs c.args.indices.now c.in-None.ensures.cases)))
+    (some_worth nodes numbers x v (h nodes numbers ∙ e))) c.copied.ensures.worth
 
 pub left_of_each-loop-part-init : goal.left_of_each-loop-part-init
 left_of_each-loop-part-init t c = left_begin (indices_in c.args.rest.now) c.args.parts.now c.args.parts.now c.new-lefts.result.items refl c.new-lefts.ensures.items

@@ -6,6 +6,9 @@ use Rattle.ep_unroll.proofs.lefts.+leaving.Given as goal
 abbrev pub decreases-left_of : goal.decreases-left_of
 decreases-left_of l = 4 * length l.indices.now
 
+abbrev pub decreases-left_of_cells : goal.decreases-left_of_cells
+decreases-left_of_cells l = 4 * length l.rest.now + 3
+
 abbrev pub decreases-left_of_seen : goal.decreases-left_of_seen
 decreases-left_of_seen l = 4 * length l.rest.now + 3
 

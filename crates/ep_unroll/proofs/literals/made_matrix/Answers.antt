@@ -3,7 +3,7 @@ use Rattle.ep_base.specs.Options.{on_both}
 use Rattle.ep_tree.specs.Evaluation.{index_values}
 use Rattle.ep_tree.specs.Values.{all_defined, with_indices}
 use Rattle.ep_eval.specs.Scopes.{mode_in}
-use Rattle.ep_eval.specs.Literals.{index_at}
+use Rattle.ep_forms.specs.Forms.{index_at}
 use Rattle.ep_unroll.proofs.FormValues.{if_ok}
 use Rattle.ep_unroll.proofs.PartListSteps.{no_indices, parts_counted}
 use Rattle.ep_unroll.specs.Meanings.{AreTerms, worth}

@@ -2,13 +2,12 @@ use Rattle.std.proofs.Common.{length, subst, sym, ◌<◌}
 use Rattle.std.specs.List.{All}
 use Rattle.ep_eval.specs.Scopes.{mode_in}
 use Rattle.ep_ground.specs.Nodes.{parts_of}
-use Rattle.ep_tree.specs.Evaluation.{scalars_in}
 use Rattle.ep_tree.specs.Trees.{folded}
 use Rattle.ep_unroll.proofs.FormValues.{asked_of, if_ok}
 use Rattle.ep_unroll.proofs.MatrixSteps.{every_term, greatest_is, least_is, some_term}
 use Rattle.ep_unroll.proofs.ProductSteps.{product_is}
-use Rattle.ep_unroll.proofs.ScalarSteps.{adds_known, scalars_are}
-use Rattle.ep_unroll.specs.Meanings.{IsTermOf, worth}
+use Rattle.ep_unroll.proofs.ScalarSteps.{scalars_are}
+use Rattle.ep_unroll.specs.Meanings.{IsTermOf}
 use Rattle.ep_unroll.proofs.matrices.fold_of.Goals as goal
 
 pub sum_of_all-requires : goal.sum_of_all-requires
@@ -22,7 +21,7 @@ returns-in-Sum c n cells nodes p e mode count h =
     if_ok c.sum_of_all.result _ _ (λ t own. subst (λ op. IsTermOf n cells nodes c.sum_of_all.new.arena (folded p op e) t) (sym c.in-Sum.is) own) (c.sum_of_all.ensures n cells nodes p e h)
 
 pub product_of_all-requires : goal.product_of_all-requires
-product_of_all-requires c = adds_known c.args.arena.now c.scalar_terms.new.arena c.in_ok-terms-in-Product.terms.items (λ numbers. scalars_in (worth c.args.arena.now numbers c.args.known.now)) c.in_ok-terms-in-Product.ensures
+product_of_all-requires c = c.in_ok-terms-in-Product.ensures.known
 
 pub returns-in_ok-terms-in-Product : goal.returns-in_ok-terms-in-Product
 returns-in_ok-terms-in-Product c n cells nodes p e mode count h =
@@ -36,14 +35,14 @@ returns-in_ok-terms-in-Product c n cells nodes p e mode count h =
 pub judged-requires : goal.judged-requires
 unfolding parts_of
 judged-requires c = record {
-  node = adds_known c.args.arena.now c.scalar_terms-in-And.new.arena c.in_ok-terms-in-And.terms.items (λ numbers. scalars_in (worth c.args.arena.now numbers c.args.known.now)) c.in_ok-terms-in-And.ensures;
+  node = c.in_ok-terms-in-And.ensures.known;
   others = c.in_ok-needed-in-And.ensures.known;
 }
 
 pub needed_parts-requires : goal.needed_parts-requires
 needed_parts-requires c =
     subst (All (λ t. t < length c.scalar_terms-in-And.new.arena)) (sym c.deref.ensures.value)
-    (adds_known c.args.arena.now c.scalar_terms-in-And.new.arena c.in_ok-terms-in-And.terms.items (λ numbers. scalars_in (worth c.args.arena.now numbers c.args.known.now)) c.in_ok-terms-in-And.ensures)
+    c.in_ok-terms-in-And.ensures.known
 
 pub returns-in_ok-needed-in-And : goal.returns-in_ok-needed-in-And
 returns-in_ok-needed-in-And c n cells nodes p e mode count h =
@@ -59,14 +58,14 @@ returns-in_ok-needed-in-And c n cells nodes p e mode count h =
 pub judged-requires-in-Or : goal.judged-requires-in-Or
 unfolding parts_of
 judged-requires-in-Or c = record {
-  node = adds_known c.args.arena.now c.scalar_terms-in-Or.new.arena c.in_ok-terms-in-Or.terms.items (λ numbers. scalars_in (worth c.args.arena.now numbers c.args.known.now)) c.in_ok-terms-in-Or.ensures;
+  node = c.in_ok-terms-in-Or.ensures.known;
   others = c.in_ok-needed-in-Or.ensures.known;
 }
 
 pub needed_parts-requires-in-Or : goal.needed_parts-requires-in-Or
 needed_parts-requires-in-Or c =
     subst (All (λ t. t < length c.scalar_terms-in-Or.new.arena)) (sym c.deref-in-Or.ensures.value)
-    (adds_known c.args.arena.now c.scalar_terms-in-Or.new.arena c.in_ok-terms-in-Or.terms.items (λ numbers. scalars_in (worth c.args.arena.now numbers c.args.known.now)) c.in_ok-terms-in-Or.ensures)
+    c.in_ok-terms-in-Or.ensures.known
 
 pub returns-in_ok-needed-in-Or : goal.returns-in_ok-needed-in-Or
 returns-in_ok-needed-in-Or c n cells nodes p e mode count h =
@@ -80,7 +79,7 @@ returns-in_ok-needed-in-Or c n cells nodes p e mode count h =
     (asked_of n mid c.args.count (mode_in c.args.scope) c.deref-in-Or.result.now ts us c.deref-in-Or.ensures.value mode count c.in_ok-needed-in-Or.ensures) j)) c.judged-in-Or.ensures
 
 pub least_of_all-requires : goal.least_of_all-requires
-least_of_all-requires c = adds_known c.args.arena.now c.scalar_terms-in-Min.new.arena c.in_ok-terms-in-Min.terms.items (λ numbers. scalars_in (worth c.args.arena.now numbers c.args.known.now)) c.in_ok-terms-in-Min.ensures
+least_of_all-requires c = c.in_ok-terms-in-Min.ensures.known
 
 pub returns-in_ok-terms-in-Min : goal.returns-in_ok-terms-in-Min
 returns-in_ok-terms-in-Min c n cells nodes p e mode count h =
@@ -92,7 +91,7 @@ returns-in_ok-terms-in-Min c n cells nodes p e mode count h =
     (least_is n cells nodes mid new p e ts t (scalars_are n cells nodes c.args.arena.now mid e c.args.known.now ts h c.in_ok-terms-in-Min.ensures) own)) c.least_of_all.ensures
 
 pub greatest_of_all-requires : goal.greatest_of_all-requires
-greatest_of_all-requires c = adds_known c.args.arena.now c.scalar_terms-in-Max.new.arena c.in_ok-terms-in-Max.terms.items (λ numbers. scalars_in (worth c.args.arena.now numbers c.args.known.now)) c.in_ok-terms-in-Max.ensures
+greatest_of_all-requires c = c.in_ok-terms-in-Max.ensures.known
 
 pub returns-in_ok-terms-in-Max : goal.returns-in_ok-terms-in-Max
 returns-in_ok-terms-in-Max c n cells nodes p e mode count h =

@@ -3,7 +3,7 @@ use Rattle.std.specs.Prelude.{option_map}
 use Rattle.ep_eval.specs.Bounds.{cells_of}
 use Rattle.ep_eval.specs.Known.{env_of}
 use Rattle.ep_eval.specs.Scopes.{env_in, mode_in}
-use Rattle.ep_unroll.proofs.NumberSteps.{only_cells_is}
+use Rattle.ep_size.proofs.LookSteps.{only_cells_is}
 use Rattle.ep_unroll.proofs.PartSteps.{stands_for}
 use Rattle.ep_unroll.specs.Firsts.{first_in, numbering_of}
 use Rattle.ep_unroll.proofs.named.block_named.Goals as goal

@@ -6,10 +6,11 @@ use Rattle.ep_tree.specs.Views.{expr_tree, indices_of}
 use Rattle.ep_unroll.proofs.PartSteps.{read_done}
 use Rattle.ep_unroll.specs.Blocks.{IsWorth}
 use Rattle.ep_unroll.specs.Firsts.{numbering_of}
-use Rattle.ep_unroll.specs.Meanings.{AreTerms}
+use Rattle.ep_unroll.specs.Meanings.{AreTerms, worth}
 use Rattle.ep_unroll.proofs.reads.read_named.Goals as goal
 
 pub returns-in_ok-left-in-Some : goal.returns-in_ok-left-in-Some
+unfolding worth AreTerms
 returns-in_ok-left-in-Some c nodes p q tree =
     let n = numbering_of (mode_in c.args.scope) c.args.table.now in
     let block = c.in_ok-block.block in
@@ -18,7 +19,7 @@ returns-in_ok-left-in-Some c nodes p q tree =
     c.in_ok-block.ensures tree c.in_ok-ty.ensures
     (λ r. c.in_ok-numbers.ensures n r ∙ ap (option_map (λ v. indices_in v.items)) c.in-Some.is ∙ ap (λ l. Some (indices_in l)) (sym c.deref.ensures.value))
     (λ numbers v e. c.finish_read.ensures.worth nodes numbers (read_value (indices_in is) v) (c.in_ok-left-in-Some.ensures.worth nodes numbers v e))
-    (c.finish_read.ensures.terms (length nodes) (c.in_ok-left-in-Some.ensures.terms (length nodes)))
+    (c.finish_read.ensures.terms (length nodes) (c.in_ok-left-in-Some.ensures.terms (length nodes) tt))
 
 pub returns-in-None : goal.returns-in-None
 unfolding AreTerms IsWorth

@@ -1,10 +1,20 @@
-use Rattle.std.proofs.Common.{subst}
+use Rattle.std.proofs.Common.{[], length, subst, sym, ◌∷◌}
 use Rattle.ep_tree.specs.Evaluation.{scalars_in}
+use Rattle.ep_unroll.proofs.FlatSteps.{flat_known}
+use Rattle.ep_unroll.proofs.FormValues.{if_ok}
+use Rattle.ep_unroll.proofs.ScalarSteps.{scalars_have}
+use Rattle.ep_unroll.specs.Flats.{AddsParts}
 use Rattle.ep_unroll.specs.Meanings.{worth}
-use Rattle.ep_unroll.specs.PartLists.{AddsScalars}
+use Rattle.ep_unroll.specs.PartLists.{HaveTerms}
 use Rattle.ep_unroll.proofs.scalars.scalar_terms.Goals as goal
+
+pub each_term-requires : goal.each_term-requires
+each_term-requires c =
+    subst (HaveTerms (length c.args.arena.now)) (sym c.deref.ensures.value)
+    (flat_known c.in_ok-scalars.scalars.items c.args.known.now (λ nodes numbers. scalars_in (worth nodes numbers c.args.known.now)) (length c.args.arena.now) c.in_ok-scalars.ensures c.requires)
 
 pub returns : goal.returns
 returns c =
-    subst (λ before. AddsScalars c.args.arena.now c.push_scalars.new.arena before c.push_scalars.new.terms.items (λ numbers. scalars_in (worth c.args.arena.now numbers c.args.known.now))) c.new-terms.ensures.items
-    (c.in_ok-push_scalars.ensures c.requires)
+    if_ok c.each_term.result _ _
+    (λ ts h. scalars_have c.args.arena.now c.each_term.new.arena c.args.known.now c.deref.result.now ts.items
+    (subst (λ xs. AddsParts [] xs (c.args.known.now ∷ []) (λ ns numbers. scalars_in (worth ns numbers c.args.known.now))) (sym c.deref.ensures.value) c.in_ok-scalars.ensures) h) c.each_term.ensures
