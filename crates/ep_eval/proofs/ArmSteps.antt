@@ -1,35 +1,8 @@
 -- Each form of expression, settled behind its parts.
-use Rattle.std.proofs.Common.{◌≡◌, Bool, List, [], ◌∷◌, ◌++◌, ℤ, ℕ, length, refl, sym, ap, subst, ◌∙◌}
-use Rattle.std.specs.Prelude.{Option, Some, None, option_map}
-use Rattle.ep_base.specs.Numbers.{has_number, sum_of}
-use Rattle.ep_base.specs.Options.{map_both, on_both}
-use Rattle.ep_base.specs.declared.names.Name.{Name}
-use Rattle.ep_base.specs.declared.places.Place.{Place}
-use Rattle.ep_forms.specs.Forms.{counts_node, one_node, truths_node, two_node}
-use Rattle.ep_forms.specs.declared.forms.CountOp.{CountOp}
-use Rattle.ep_forms.specs.declared.forms.OneOp.{OneOp}
-use Rattle.ep_forms.specs.declared.forms.TwoOp.{TwoOp}
-use Rattle.ep_tree.proofs.EvaluationEquations.{evaluate-chain, evaluate-read}
-use Rattle.ep_tree.specs.Environments.{Env}
-use Rattle.ep_tree.specs.Evaluation.{domain_values, evaluate, index_list, index_values, number_in, number_value, read_result, term_values, truth_in, type_in, values_of}
-use Rattle.ep_tree.specs.Limits.{numbers_at}
-use Rattle.ep_tree.specs.Measures.{Met, a_node, met, met_all, met_domain, met_index, met_indices, met_terms}
-use Rattle.ep_tree.specs.Trees.{DomainTree, ExprTree, ExprTrees, IndexDomain, Indices, Terms, chain, in_domain, literal, named, number, read, truth}
-use Rattle.ep_tree.specs.Values.{Index, ValueTree, all_defined, read_value, with_indices}
-use Rattle.ep_tree.specs.Views.{expr_trees}
-use Rattle.ep_tree.specs.declared.syntax.Expr.{Expr}
-use Rattle.ep_tree.specs.declared.values.Mode.{Mode}
+use Rattle.ep_eval.proofs.Words.{◌≡◌, Bool, List, [], ◌∷◌, ◌++◌, ℤ, ℕ, length, refl, sym, ap, subst, ◌∙◌, Option, Some, None, option_map, has_number, sum_of, map_both, on_both, Name, Place, counts_node, one_node, truths_node, two_node, CountOp, OneOp, TwoOp, evaluate-chain, evaluate-read, Env, domain_values, evaluate, index_list, index_values, number_in, number_value, read_result, term_values, truth_in, type_in, values_of, numbers_at, Met, a_node, met, met_all, met_domain, met_index, met_indices, met_terms, DomainTree, ExprTree, ExprTrees, IndexDomain, Indices, Terms, chain, in_domain, literal, named, number, read, truth, Index, ValueTree, all_defined, read_value, with_indices, expr_trees, Expr, Mode, of_all, seen_held, IsWorth, SettlesWorth, Told, count_value, one_numbers, one_value, own_number, two_value, Held, Meter, Worth, Seen}
 use Rattle.ep_eval.proofs.LiteralForms.{literal_is}
 use Rattle.ep_eval.proofs.MeterSteps.{joins, node_told, told_as, told_none, told_then}
 use Rattle.ep_eval.proofs.WorthSteps.{evaluate-counts, evaluate-one, evaluate-truths, evaluate-two, met-counts, met-one, met-truths, met-two, numbers-counts, numbers-one, numbers-truths, numbers-two, worth_seen}
-use Rattle.ep_eval.specs.Counting.{of_all}
-use Rattle.ep_eval.specs.Helds.{seen_held}
-use Rattle.ep_eval.specs.Meters.{IsWorth, SettlesWorth, Told}
-use Rattle.ep_eval.specs.Worths.{count_value, one_numbers, one_value, own_number, two_value}
-use Rattle.ep_eval.specs.declared.held.Held.{Held}
-use Rattle.ep_eval.specs.declared.meter.Meter.{Meter}
-use Rattle.ep_eval.specs.declared.worth.Worth.{Worth}
-use Rattle.ep_eval.specs.declared.worth.Worth.TheVariants.{Seen}
 
 -- a node whose only number is its value, with its value
 plain_told : (mode : Mode) (env : Env) (e : ExprTree) (a b c : Meter) (ms : List Met) (made seen : Option Held)

@@ -1,7 +1,5 @@
 -- A function of two parts, where each is defined.
-use Rattle.std.proofs.Common.{◌≡◌, ap, ◌∙◌}
-use Rattle.std.specs.Prelude.{Option, Some, None}
-use Rattle.ep_base.specs.Options.{map_both}
+use Rattle.ep_eval.proofs.Words.{◌≡◌, ap, ◌∙◌, Option, Some, None, map_both}
 
 pub both_some : {A B C : Type 0} (f : A → B → C) (a : Option A) (b : Option B) (x : A) (y : B) → a ≡ Some x → b ≡ Some y → map_both f a b ≡ Some (f x y)
 unfolding map_both

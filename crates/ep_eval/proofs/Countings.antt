@@ -1,18 +1,7 @@
 -- How counts and causes compose.
-use Rattle.std.proofs.Common.{◌≡◌, ℕ, ◌+◌, ◌<◌, ◌≤◌, Bool, true, false, List, [], ◌∷◌, ◌++◌, length, refl, sym, ap, subst, ◌∙◌, inl, inr, arith}
-use Rattle.std.specs.Prelude.{Contains, flat_map, nat_lt, ◌||◌, if◌then◌else◌, ℤ, Result, Ok, Err, IfErr, Option}
-use Rattle.std.specs.List.{list_any}
-use Rattle.std.proofs.lemmas.Grind.{flat_map-append}
+use Rattle.ep_eval.proofs.Words.{◌≡◌, ℕ, ◌+◌, ◌<◌, ◌≤◌, Bool, true, false, List, [], ◌∷◌, ◌++◌, length, refl, sym, ap, subst, ◌∙◌, inl, inr, arith, flat_map, nat_lt, ◌||◌, if◌then◌else◌, ℤ, Result, Ok, Err, IfErr, Option, list_any, flat_map-append, Env, domain_values, evaluate, MOST_SIZE, counted_domain, counted_value, limits_of_values, within, ValueTree, Met, met, met_domain, DomainTree, ExprTree, Mode, Counted, IsPassed, has_far}
+use Rattle.std.specs.Prelude.{Contains}
 use Rattle.ep_base.specs.declared.operators.Limit.{Limit as LimitName}
-use Rattle.ep_tree.specs.Environments.{Env}
-use Rattle.ep_tree.specs.Evaluation.{domain_values, evaluate}
-use Rattle.ep_tree.specs.Limits.{MOST_SIZE, counted_domain, counted_value, limits_of_values, within}
-use Rattle.ep_tree.specs.Values.{ValueTree}
-use Rattle.ep_tree.specs.Measures.{Met, met, met_domain}
-use Rattle.ep_tree.specs.Trees.{DomainTree, ExprTree}
-use Rattle.ep_tree.specs.declared.values.Mode.{Mode}
-use Rattle.ep_eval.specs.Counting.{Counted}
-use Rattle.ep_eval.specs.Meters.{IsPassed, has_far}
 
 pub any_append : (f : ℤ → Bool) (xs ys : List ℤ) → list_any f (xs ++ ys) ≡ (list_any f xs || list_any f ys)
 any_append f [] ys = refl

@@ -1,7 +1,5 @@
 -- Functions of parts that may have no value.
-use Rattle.std.proofs.Common.{◌≡◌, ap, ◌∙◌}
-use Rattle.std.specs.Prelude.{Option, Some, None}
-use Rattle.ep_base.specs.Options.{on_both, on_three}
+use Rattle.ep_eval.proofs.Words.{◌≡◌, ap, ◌∙◌, Option, Some, None, on_both, on_three}
 
 pub on_some : {A B C : Type 0} (a : Option A) (b : Option B) (f : A → B → Option C) (x : A) (y : B) → a ≡ Some x → b ≡ Some y → on_both a b f ≡ f x y
 unfolding on_both

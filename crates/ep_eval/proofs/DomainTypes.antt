@@ -1,27 +1,7 @@
 -- The types of domains and of lists in brackets by those of their parts.
-use Rattle.std.proofs.Common.{◌≡◌, ℕ, zero, suc, ◌+◌, Bool, true, false, ◌&&◌, ◌==◌, if◌then◌else◌, List, [], ◌∷◌, ◌++◌, length, Option, Some, None, option_map, refl, sym, ap, ◌∙◌, append_assoc, append-nil, arith}
-use Rattle.std.specs.List.{list_all}
+use Rattle.ep_eval.proofs.Words.{◌≡◌, ℕ, zero, suc, ◌+◌, Bool, true, false, ◌&&◌, ◌==◌, if◌then◌else◌, List, [], ◌∷◌, ◌++◌, length, Option, Some, None, option_map, refl, sym, ap, ◌∙◌, append_assoc, append-nil, arith, list_all, Box, ne_eqb, map_both, Place, judge-in_domain, judge-literal, judge_domain-group_domain, judge_domain-matrix_domain, judge_domain-ranges, judge_domain-set_domain, index_of, with_range-one, with_range-span, DomainTree, ExprTree, ExprTrees, IndexDomain, Ranges, group_domain, in_domain, literal, matrix_domain, no_ranges, ranges, set_domain, Context, Judged, all_typed, both_scalars, can_index, from_all, from_many, from_one, from_two, gives, has_dimensions, indexed_type, is_boolean, is_integer, is_matrix, is_matrix_of_bool, judge, judge_all, judge_domain, judge_domains, judge_end, judge_index, judge_indices, judge_ranges, list_of_matrices, list_type, matrix_type, mistyped, of_scalar, scalar_of, stated_dimensions, type_from, typed, untyped, domain_tree, domains_of, end_of, expr_tree, expr_trees, held_end, indices_of, kind_tree, ranges_of, with_range, Domain, Expr, One, One', Range, Span, Span', SetOp, Scalar, ValueType, all_pass, domain_type_at, list_of, matrix_over, passes, set_of_both, type_at, type_if, index_at, alone, Wanted}
 use Rattle.std.specs.declared.alloc.Global.{Global}
-use Rattle.std.specs.declared.boxed.Box.{Box}
-use Rattle.std.proofs.lemmas.Bool.{ne_eqb}
-use Rattle.ep_base.specs.Options.{map_both}
-use Rattle.ep_base.specs.declared.places.Place.{Place}
-use Rattle.ep_tree.proofs.TypeEquations.{judge-in_domain, judge-literal, judge_domain-group_domain, judge_domain-matrix_domain, judge_domain-ranges, judge_domain-set_domain}
-use Rattle.ep_tree.proofs.ViewLemmas.{index_of, with_range-one, with_range-span}
-use Rattle.ep_tree.specs.Trees.{DomainTree, ExprTree, ExprTrees, IndexDomain, Ranges, group_domain, in_domain, literal, matrix_domain, no_ranges, ranges, set_domain}
-use Rattle.ep_tree.specs.Types.{Context, Judged, all_typed, both_scalars, can_index, from_all, from_many, from_one, from_two, gives, has_dimensions, indexed_type, is_boolean, is_integer, is_matrix, is_matrix_of_bool, judge, judge_all, judge_domain, judge_domains, judge_end, judge_index, judge_indices, judge_ranges, list_of_matrices, list_type, matrix_type, mistyped, of_scalar, scalar_of, stated_dimensions, type_from, typed, untyped}
-use Rattle.ep_tree.specs.Views.{domain_tree, domains_of, end_of, expr_tree, expr_trees, held_end, indices_of, kind_tree, ranges_of, with_range}
-use Rattle.ep_tree.specs.declared.syntax.Domain.{Domain}
-use Rattle.ep_tree.specs.declared.syntax.Expr.{Expr}
-use Rattle.ep_tree.specs.declared.syntax.Range.{One, One', Range, Span, Span'}
-use Rattle.ep_tree.specs.declared.syntax.SetOp.{SetOp}
-use Rattle.ep_tree.specs.declared.values.Scalar.{Scalar}
-use Rattle.ep_tree.specs.declared.values.ValueType.{ValueType}
 use Rattle.ep_eval.proofs.JudgingForms.{alone_is, both_pass, by_many, by_two, first_all, given_by, regrouped, same_type, typed_length, typed_more}
-use Rattle.ep_eval.specs.Judging.{all_pass, domain_type_at, list_of, matrix_over, passes, set_of_both, type_at, type_if}
-use Rattle.ep_forms.specs.Forms.{index_at}
-use Rattle.ep_eval.specs.Ranges.{alone}
-use Rattle.ep_eval.specs.declared.rules.Wanted.{Wanted}
 
 -- ---- forms
 

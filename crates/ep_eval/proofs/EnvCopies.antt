@@ -1,15 +1,5 @@
 -- An environment that is copied name by name.
-use Rattle.std.proofs.Common.{◌≡◌, ◌⊎◌, ℕ, ◌+◌, ◌≤◌, Bool, true, false, List, [], ◌∷◌, ◌++◌, length, take, refl, sym, ap, ◌∙◌, inl, inr, subst}
-use Rattle.std.specs.Prelude.{cond, Some, None, option_map, bytes_eq, slice_get, if◌then◌else◌}
-use Rattle.std.specs.Map.{lookup}
-use Rattle.std.proofs.lemmas.List.{take_all, take_more}
-use Rattle.std.proofs.lemmas.Option.{get_or_from_slice_get, slice_get_within}
-use Rattle.std.proofs.lemmas.Slice.Eq.{bytes_eq-Decides}
-use Rattle.ep_base.proofs.Small.{no_some}
-use Rattle.ep_base.specs.declared.names.Name.{Name}
-use Rattle.ep_tree.specs.Environments.{Env}
-use Rattle.ep_tree.specs.Names.{nothing_known, put}
-use Rattle.ep_eval.specs.Bounds.{bound_of}
+use Rattle.ep_eval.proofs.Words.{◌≡◌, ◌⊎◌, ℕ, ◌+◌, ◌≤◌, Bool, true, false, List, [], ◌∷◌, ◌++◌, length, take, refl, sym, ap, ◌∙◌, inl, inr, subst, cond, Some, None, option_map, bytes_eq, slice_get, if◌then◌else◌, lookup, take_all, take_more, get_or_from_slice_get, slice_get_within, bytes_eq-Decides, no_some, Name, Env, nothing_known, put, bound_of}
 use Rattle.ep_eval.specs.declared.environments.Meaning.{Meaning}
 use Rattle.ep_eval.proofs.KnownNames.{entries_env}
 

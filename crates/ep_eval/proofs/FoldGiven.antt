@@ -1,20 +1,5 @@
 -- What each fold gives, with the numbers at its node.
-use Rattle.std.proofs.Common.{◌≡◌, ℤ, pos, Bool, true, false, List, sym, subst}
-use Rattle.std.proofs.lemmas.Bool.{or_right}
-use Rattle.std.specs.Prelude.{Option, Some, None, Result, Ok, Err, ◌||◌, option_to_list}
-use Rattle.std.specs.List.{list_any}
-use Rattle.ep_base.specs.Numbers.{all_one, any_one, greatest_of, least_of, product_of, sum_of}
-use Rattle.ep_base.specs.Reads.{is_too_far}
-use Rattle.ep_tree.specs.Evaluation.{folded_value, number_in, number_value, truth_in}
-use Rattle.ep_tree.specs.Limits.{products_from}
-use Rattle.ep_tree.specs.Values.{ValueTree, single}
-use Rattle.ep_tree.specs.declared.syntax.FoldOp.{FoldOp}
-use Rattle.ep_tree.specs.declared.values.Mode.{Mode}
-use Rattle.ep_eval.specs.Counting.{Gives}
-use Rattle.ep_eval.specs.Folding.{GivesAt, folded_numbers}
-use Rattle.ep_eval.specs.declared.errors.EvalError.{EvalError}
-use Rattle.ep_eval.specs.declared.errors.EvalError.TheVariants.{Limit, Memory}
-use Rattle.ep_eval.specs.declared.held.Held.{Held}
+use Rattle.ep_eval.proofs.Words.{◌≡◌, ℤ, pos, Bool, true, false, List, sym, subst, or_right, Option, Some, None, Result, Ok, Err, ◌||◌, option_to_list, list_any, all_one, any_one, greatest_of, least_of, product_of, sum_of, is_too_far, folded_value, number_in, number_value, truth_in, products_from, ValueTree, single, FoldOp, Mode, Gives, GivesAt, folded_numbers, EvalError, Limit, Memory, Held}
 
 alone : (r : Result (Option Held) EvalError) (v : Option ValueTree) → Gives r v → GivesAt r v (option_to_list (number_in v))
 alone (Ok seen) v h = (h, λ k. k)

@@ -1,12 +1,5 @@
 -- How deep the trees are that the walk through generators still has to go through.
-use Rattle.std.proofs.Common.{ℕ, ◌<◌, arith}
-use Rattle.std.specs.Prelude.{None, Option, Some}
-use Rattle.ep_tree.specs.declared.syntax.Domain.{size-Domain}
-use Rattle.ep_tree.specs.declared.syntax.DomainKind.TheViews.{sized-Span}
-use Rattle.ep_tree.specs.declared.syntax.Expr.{Expr}
-use Rattle.ep_tree.specs.declared.syntax.Range.{Span, size-Range}
-use Rattle.ep_forms.specs.Ranks.{end_depth, generators_depth, greater}
-use Rattle.ep_eval.specs.declared.generating.Ranging.{Ranging}
+use Rattle.ep_eval.proofs.Words.{ℕ, ◌<◌, arith, None, Option, Some, size-Domain, sized-Span, Expr, Span, size-Range, end_depth, generators_depth, greater, Ranging}
 
 -- the depth of what names range over, and of what is behind it
 abbrev pub ranging_depth : Ranging → ℕ

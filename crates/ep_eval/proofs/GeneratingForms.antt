@@ -1,21 +1,6 @@
 -- A comprehension by its generators: what it meets, in the order in which it is evaluated, and its parts.
-use Rattle.std.proofs.Common.{◌≡◌, ℕ, ◌+◌, ◌<◌, ◌≤◌, Bool, true, false, List, [], ◌∷◌, ◌++◌, length, ℤ, refl, sym, ap, subst, ◌∙◌, append_assoc, append-nil, arith}
-use Rattle.std.specs.Prelude.{◌&&◌, ◌||◌, is_some, Option, Some, None, filter, flat_map, if◌then◌else◌, map, option_and_then, option_map, unwrap_or}
-use Rattle.std.specs.List.{list_all}
-use Rattle.std.proofs.lemmas.Grind.{flat_map-append}
-use Rattle.std.proofs.lemmas.List.{map-append}
-use Rattle.std.proofs.lemmas.List.Elements.{filter-append}
-use Rattle.std.proofs.lemmas.List.Folds.{list_all-append}
-use Rattle.ep_base.specs.Options.{map_both}
-use Rattle.ep_base.specs.declared.names.Name.{Name}
-use Rattle.ep_tree.specs.Environments.{Env}
-use Rattle.ep_tree.specs.Evaluation.{all_hold, all_joined, all_true, are_told, chosen, domains_defined, evaluate, holding, numbered, over_names, reached, values_of}
-use Rattle.ep_tree.specs.Measures.{Met, a_generator, met, met_all, met_domain, met_generators, met_names}
-use Rattle.ep_tree.specs.Trees.{ExprTree, ExprTrees, Generators, comprehension, generator_and, no_generators}
-use Rattle.ep_tree.specs.Values.{ValueTree, all_defined}
-use Rattle.ep_tree.specs.declared.values.Mode.{Mode}
+use Rattle.ep_eval.proofs.Words.{◌≡◌, ℕ, ◌+◌, ◌<◌, ◌≤◌, Bool, true, false, List, [], ◌∷◌, ◌++◌, length, ℤ, refl, sym, ap, subst, ◌∙◌, append_assoc, append-nil, arith, ◌&&◌, ◌||◌, is_some, Option, Some, None, filter, flat_map, if◌then◌else◌, map, option_and_then, option_map, unwrap_or, list_all, flat_map-append, map-append, filter-append, list_all-append, map_both, Name, Env, all_hold, all_joined, all_true, are_told, chosen, domains_defined, evaluate, holding, numbered, over_names, reached, values_of, Met, a_generator, met, met_all, met_domain, met_generators, met_names, ExprTree, ExprTrees, Generators, comprehension, generator_and, no_generators, ValueTree, all_defined, Mode, listed_nodes, generated_values, lists_joined, nodes_where, part_nodes, part_value, part_where, some_joined}
 use Rattle.ep_eval.proofs.MeterSteps.{SameNodes, crossed, same_both, same_nodes, same_then}
-use Rattle.ep_eval.specs.Generating.{listed_nodes, generated_values, lists_joined, nodes_where, part_nodes, part_value, part_where, some_joined}
 
 -- ---- what generators meet
 

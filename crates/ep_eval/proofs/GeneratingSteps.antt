@@ -1,31 +1,8 @@
 -- The walk through the generators of a comprehension, step by step.
-use Rattle.std.proofs.Common.{◌≡◌, ℕ, ◌+◌, ◌<◌, ◌≤◌, Bool, true, false, List, [], ◌∷◌, ◌++◌, length, ℤ, refl, sym, ap, subst, ◌∙◌, append_assoc, append-nil, arith}
-use Rattle.std.specs.Prelude.{◌&&◌, suc, is_some, Option, Some, None, flat_map, if◌then◌else◌, map, option_and_then, option_map, unwrap_or}
-use Rattle.ep_base.proofs.Small.{no_some}
-use Rattle.ep_base.specs.Options.{map_both, on_both}
-use Rattle.ep_base.specs.declared.names.Name.{Name}
-use Rattle.ep_base.specs.declared.places.Place.{Place}
-use Rattle.ep_tree.proofs.EvaluationEquations.{evaluate-comprehension}
-use Rattle.ep_tree.specs.Environments.{Env, scalar_in, with_number}
-use Rattle.ep_tree.specs.Evaluation.{are_told, all_true, chosen, domain_values, domains_defined, evaluate, holding, index_values, matrix_value, over_names, reached, standing_for, values_of}
-use Rattle.ep_tree.specs.Measures.{Met, a_generator, a_node, met, met_all, met_domain, met_generators, met_index, met_names}
-use Rattle.ep_tree.specs.Trees.{DomainTree, ExprTree, ExprTrees, Generators, IndexDomain, comprehension, generator_and, no_generators}
-use Rattle.ep_tree.specs.Values.{ValueTree, all_defined, with_indices}
-use Rattle.ep_tree.specs.Views.{domain_tree, generators_of}
-use Rattle.ep_tree.specs.declared.syntax.Generator.{Generator}
-use Rattle.ep_tree.specs.declared.values.Mode.{Mode}
-use Rattle.ep_tree.specs.Limits.{numbers_at}
+use Rattle.ep_eval.proofs.Words.{◌≡◌, ℕ, ◌+◌, ◌<◌, ◌≤◌, Bool, true, false, List, [], ◌∷◌, ◌++◌, length, ℤ, refl, sym, ap, subst, ◌∙◌, append_assoc, append-nil, arith, ◌&&◌, suc, is_some, Option, Some, None, flat_map, if◌then◌else◌, map, option_and_then, option_map, unwrap_or, no_some, map_both, on_both, Name, Place, evaluate-comprehension, Env, scalar_in, with_number, are_told, all_true, chosen, domain_values, domains_defined, evaluate, holding, index_values, matrix_value, over_names, reached, standing_for, values_of, Met, a_generator, a_node, met, met_all, met_domain, met_generators, met_index, met_names, DomainTree, ExprTree, ExprTrees, Generators, IndexDomain, comprehension, generator_and, no_generators, ValueTree, all_defined, with_indices, domain_tree, generators_of, Generator, Mode, numbers_at, of_all, seen_held, Held, Seen, Counts, Going, SettlesWorth, Told, own_number, Meter, how_many, listed_nodes, generated_values, lists_joined, nodes_where, part_nodes, part_value, part_where, some_joined}
 use Rattle.ep_eval.proofs.GeneratingForms.{guarded, nodes_regrouped, values_regrouped}
 use Rattle.ep_eval.proofs.WorthSteps.{worth_seen}
-use Rattle.ep_eval.specs.Counting.{of_all}
-use Rattle.ep_eval.specs.Helds.{seen_held}
-use Rattle.ep_eval.specs.declared.held.Held.{Held}
-use Rattle.ep_eval.specs.declared.worth.Worth.TheVariants.{Seen}
 use Rattle.ep_eval.proofs.MeterSteps.{SameNodes, counted_passes, far_alone, going_begins, going_ends, going_more, joins, node_stops, node_told, node_walked, same_both, same_nodes, told_as, told_same, told_stops, told_then}
-use Rattle.ep_eval.specs.Meters.{Counts, Going, SettlesWorth, Told}
-use Rattle.ep_eval.specs.Worths.{own_number}
-use Rattle.ep_eval.specs.declared.meter.Meter.{Meter}
-use Rattle.ep_eval.specs.Generating.{how_many, listed_nodes, generated_values, lists_joined, nodes_where, part_nodes, part_value, part_where, some_joined}
 
 -- ---- some lists behind others
 

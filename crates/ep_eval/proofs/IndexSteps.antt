@@ -1,21 +1,8 @@
 -- The indices of a read one after another.
-use Rattle.std.proofs.Common.{◌≡◌, ℕ, ◌≤◌, true, List, [], ◌∷◌, ◌++◌, ℤ, Option, Some, None, option_map, refl, sym, ap, subst, ◌∙◌}
-use Rattle.std.specs.Prelude.{is_some}
+use Rattle.ep_eval.proofs.Words.{◌≡◌, ℕ, ◌≤◌, true, List, [], ◌∷◌, ◌++◌, ℤ, Option, Some, None, option_map, refl, sym, ap, subst, ◌∙◌, is_some, append-nil, map_both, Env, end_value, evaluate, index_list, number_in, met_end, met_indices, Index, any_index, at_index, index_in, indices_in, end_of, expr_tree, indices_of, Expr, Mode, Going, Told, Meter, with_index}
 use Rattle.std.specs.declared.alloc.Global.{Global}
 use Rattle.std.specs.declared.vec.Vec.{Vec}
-use Rattle.std.proofs.lemmas.List.{append-nil}
-use Rattle.ep_base.specs.Options.{map_both}
-use Rattle.ep_tree.specs.Environments.{Env}
-use Rattle.ep_tree.specs.Evaluation.{end_value, evaluate, index_list, number_in}
-use Rattle.ep_tree.specs.Measures.{met_end, met_indices}
-use Rattle.ep_tree.specs.Values.{Index, any_index, at_index, index_in, indices_in}
-use Rattle.ep_tree.specs.Views.{end_of, expr_tree, indices_of}
-use Rattle.ep_tree.specs.declared.syntax.Expr.{Expr}
-use Rattle.ep_tree.specs.declared.values.Mode.{Mode}
 use Rattle.ep_eval.proofs.MeterSteps.{going_begins, going_ends, going_more, joins}
-use Rattle.ep_eval.specs.Meters.{Going, Told}
-use Rattle.ep_eval.specs.declared.meter.Meter.{Meter}
-use Rattle.ep_eval.specs.Reading.{with_index}
 
 -- the values of some indices before those of others
 abbrev pub joined_indices : Option (List (Option ℤ)) → Option (List Index) → Option (List Index)

@@ -1,32 +1,9 @@
 -- Instances of a quantifier one after another.
-use Rattle.std.proofs.Common.{◌≡◌, ℕ, ◌+◌, ◌*◌, ◌≤◌, Bool, true, false, List, [], ◌∷◌, ◌++◌, length, ℤ, pos, ◌+ℤ◌, refl, sym, ap, subst, arith, inl, inr, ◌∙◌}
-use Rattle.std.specs.Prelude.{Contains, IfErr, IfOk, OnOk, Option, Result, Ok, Err, Some, None, flat_map, map, option_map, unwrap_or}
-use Rattle.std.proofs.lemmas.Int.{ints}
-use Rattle.ep_base.specs.Numbers.{sum_of}
-use Rattle.ep_base.specs.declared.names.Name.{Name}
-use Rattle.ep_base.specs.declared.places.Place.{Place}
-use Rattle.ep_tree.specs.Environments.{Env, scalar_in, with_number}
-use Rattle.ep_tree.specs.Evaluation.{all_numbers, domain_values, evaluate, number_in, over_names, quantified_value, signed, standing_for, truth_of}
-use Rattle.ep_tree.specs.Measures.{Met, a_node, met, met_domain, met_names}
-use Rattle.ep_tree.specs.Trees.{DomainTree, ExprTree, quantified}
-use Rattle.ep_tree.specs.Values.{ValueTree, all_defined}
-use Rattle.ep_tree.specs.declared.syntax.QuantOp.{QuantOp}
-use Rattle.ep_tree.specs.declared.values.Mode.{Mode}
+use Rattle.ep_eval.proofs.Words.{◌≡◌, ℕ, ◌+◌, ◌*◌, ◌≤◌, Bool, true, false, List, [], ◌∷◌, ◌++◌, length, ℤ, pos, ◌+ℤ◌, refl, sym, ap, subst, arith, inl, inr, ◌∙◌, IfErr, IfOk, OnOk, Option, Result, Ok, Err, Some, None, flat_map, map, option_map, unwrap_or, ints, sum_of, Name, Place, Env, scalar_in, with_number, all_numbers, domain_values, evaluate, number_in, over_names, quantified_value, signed, standing_for, truth_of, Met, a_node, met, met_domain, met_names, DomainTree, ExprTree, quantified, ValueTree, all_defined, QuantOp, Mode, map_both, numbers_at, IsWithin, of_all, together, IsSmall, gathered_of, gathered_with_more, none_at_all, nothing_yet, worth, seen_held, own_number, Worth, Going, IsWorth, SettlesWorth, Told, Meter, Held, Gathered, Truths, Total}
+use Rattle.std.specs.Prelude.{Contains}
 use Rattle.ep_eval.proofs.PartSteps.{last_unit, of_all_more, of_none, regrouped}
 use Rattle.ep_eval.proofs.TermSteps.{nothing_behind, total_more, total_regrouped, wider}
-use Rattle.ep_base.specs.Options.{map_both}
-use Rattle.ep_tree.specs.Limits.{numbers_at}
-use Rattle.ep_eval.specs.Counting.{IsWithin, of_all, together}
-use Rattle.ep_eval.specs.Gathering.{IsSmall, gathered_of, gathered_with_more, none_at_all, nothing_yet, worth}
-use Rattle.ep_eval.specs.Helds.{seen_held}
-use Rattle.ep_eval.specs.Worths.{own_number}
-use Rattle.ep_eval.specs.declared.worth.Worth.{Worth}
 use Rattle.ep_eval.proofs.MeterSteps.{going_begins, going_ends, going_more_at, joins, node_told, told_then}
-use Rattle.ep_eval.specs.Meters.{Going, IsWorth, SettlesWorth, Told}
-use Rattle.ep_eval.specs.declared.meter.Meter.{Meter}
-use Rattle.ep_eval.specs.declared.held.Held.{Held}
-use Rattle.ep_eval.specs.declared.gathering.Gathered.{Gathered}
-use Rattle.ep_eval.specs.declared.gathering.Gathered.TheVariants.{Truths, Total}
 
 -- ---- what is gathered
 

@@ -1,26 +1,5 @@
 -- The types of forms by those of their parts.
-use Rattle.std.proofs.Common.{◌≡◌, ℕ, suc, ◌+◌, ◌-◌, ◌<◌, ◌≤◌, Bool, true, false, ◌&&◌, ℤ, List, [], ◌∷◌, length, Option, Some, None, option_map, refl, sym, ap, ◌∙◌, arith}
-use Rattle.std.specs.Prelude.{nat_le}
-use Rattle.std.specs.List.{list_all}
-use Rattle.std.proofs.Math.Bool.{and-true, and-false}
-use Rattle.ep_base.proofs.Small.{some_is}
-use Rattle.ep_base.specs.Options.{map_both}
-use Rattle.ep_base.specs.declared.operators.CompareOp.{CompareOp}
-use Rattle.ep_base.specs.declared.operators.LexOp.{LexOp}
-use Rattle.ep_base.specs.declared.places.Place.{Place}
-use Rattle.ep_tree.proofs.TypeEquations.{judge-absolute, judge-all_different, judge-all_of, judge-any_of, judge-at_least, judge-at_most, judge-binary, judge-chain, judge-compare, judge-factorial, judge-flatten, judge-folded, judge-gcc, judge-group, judge-in_set, judge-lex, judge-minus, judge-negation, judge-number, judge-read, judge-table, judge-to_int, judge-truth}
-use Rattle.ep_tree.specs.Environments.{shape_type}
-use Rattle.ep_tree.specs.Trees.{ExprTree, ExprTrees, Terms, absolute, all_different, all_of, any_of, at_least, at_most, binary, chain, compare, factorial, flatten, folded, gcc, group, in_set, lex, minus, negation, number, read, table, to_int, truth}
-use Rattle.ep_tree.specs.Types.{Context, Judged, all_typed, are_lists, binary_type, folded_type, from_all, from_many, from_one, from_three, from_two, gives, is_integer, is_matrix, judge, judge_all, judge_indices, judge_terms, left_type, mistyped, of_scalar, read_type, scalar_of, slice_count, type_from, typed, untyped}
-use Rattle.ep_tree.specs.Views.{expr_tree, expr_trees, indices_of, kind_tree, terms_of}
-use Rattle.ep_tree.specs.declared.syntax.BinaryOp.{BinaryOp}
-use Rattle.ep_tree.specs.declared.syntax.Expr.{Expr}
-use Rattle.ep_tree.specs.declared.syntax.FoldOp.{FoldOp}
-use Rattle.ep_tree.specs.declared.syntax.Kind.{Kind}
-use Rattle.ep_tree.specs.declared.values.Scalar.{Scalar}
-use Rattle.ep_tree.specs.declared.values.ValueType.{ValueType}
-use Rattle.ep_eval.specs.Judging.{all_pass, flattened, fold_part, fold_type, join_part, join_type, passes, read_of, type_at, type_if}
-use Rattle.ep_eval.specs.declared.rules.Wanted.{Wanted}
+use Rattle.ep_eval.proofs.Words.{◌≡◌, ℕ, suc, ◌+◌, ◌-◌, ◌<◌, ◌≤◌, Bool, true, false, ◌&&◌, ℤ, List, [], ◌∷◌, length, Option, Some, None, option_map, refl, sym, ap, ◌∙◌, arith, nat_le, list_all, and-true, and-false, some_is, map_both, CompareOp, LexOp, Place, judge-absolute, judge-all_different, judge-all_of, judge-any_of, judge-at_least, judge-at_most, judge-binary, judge-chain, judge-compare, judge-factorial, judge-flatten, judge-folded, judge-gcc, judge-group, judge-in_set, judge-lex, judge-minus, judge-negation, judge-number, judge-read, judge-table, judge-to_int, judge-truth, shape_type, ExprTree, ExprTrees, Terms, absolute, all_different, all_of, any_of, at_least, at_most, binary, chain, compare, factorial, flatten, folded, gcc, group, in_set, lex, minus, negation, number, read, table, to_int, truth, Context, Judged, all_typed, are_lists, binary_type, folded_type, from_all, from_many, from_one, from_three, from_two, gives, is_integer, is_matrix, judge, judge_all, judge_indices, judge_terms, left_type, mistyped, of_scalar, read_type, scalar_of, slice_count, type_from, typed, untyped, expr_tree, expr_trees, indices_of, kind_tree, terms_of, BinaryOp, Expr, FoldOp, Kind, Scalar, ValueType, all_pass, flattened, fold_part, fold_type, join_part, join_type, passes, read_of, type_at, type_if, Wanted}
 
 -- ---- rules
 

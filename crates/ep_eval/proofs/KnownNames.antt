@@ -1,13 +1,5 @@
 -- What names stand for, by the entries of a table.
-use Rattle.std.proofs.Common.{◌≡◌, Bool, true, false, List, refl, sym, ap, ◌∙◌}
-use Rattle.std.specs.Prelude.{cond, Option, Some, option_map, bytes_eq, if◌then◌else◌}
-use Rattle.std.specs.Map.{lookup}
-use Rattle.std.specs.Bool.{one_answer}
-use Rattle.std.proofs.lemmas.Slice.Eq.{bytes_eq-Decides}
-use Rattle.ep_base.specs.declared.names.Name.{Name}
-use Rattle.ep_tree.specs.Environments.{Bound, Env}
-use Rattle.ep_tree.specs.Names.{put}
-use Rattle.ep_eval.specs.Bounds.{bound_of}
+use Rattle.ep_eval.proofs.Words.{◌≡◌, Bool, true, false, List, refl, sym, ap, ◌∙◌, cond, Option, Some, option_map, bytes_eq, if◌then◌else◌, lookup, one_answer, bytes_eq-Decides, Name, Bound, Env, put, bound_of}
 use Rattle.ep_eval.specs.declared.environments.Meaning.{Meaning}
 
 -- the environment of some entries

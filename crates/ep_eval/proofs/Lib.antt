@@ -33,3 +33,4 @@ pub mod LiteralForms
 pub mod JudgingForms
 pub mod DomainTypes
 pub mod TypedNames
+mod Words

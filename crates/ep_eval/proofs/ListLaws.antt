@@ -1,18 +1,6 @@
 -- Lists of numbers, seen from one part on.
-use Rattle.std.proofs.Common.{◌≡◌, ◌≢◌, ℕ, suc, zero, ◌+◌, ◌<◌, ℤ, pos, ◌+ℤ◌, Bool, true, false, List, [], ◌∷◌, ◌++◌, length, get_or, take, refl, sym, ap, ◌∙◌, arith, add-one}
-use Rattle.std.specs.Prelude.{Contains, Option, Some, None, option_map, not, ◌&&◌, ◌||◌, cond, ◌==◌, if◌then◌else◌, int_lt}
-use Rattle.std.specs.List.{list_all, list_any}
-use Rattle.std.specs.Ordering.{int_eq, is_eq}
-use Rattle.std.specs.declared.cmp.Ordering.TheVariants.{Less, Equal, Greater}
-use Rattle.std.specs.Bool.{one_answer}
-use Rattle.std.proofs.lemmas.Bool.Decides.{Decides-int_eq, same_from_decides}
-use Rattle.std.proofs.lemmas.Cmp.{eq_by_cmp_equiv, int_cmp_total}
-use Rattle.std.proofs.lemmas.Map.Views.{Contains-from_any, list_any-from_Contains}
-use Rattle.std.proofs.lemmas.Int.{ints}
-use Rattle.std.proofs.lemmas.List.Sums.{count_by_more_no, count_by_more_yes}
-use Rattle.ep_base.specs.Numbers.{all_one, any_one, are_different, compare_holds, counts_hold, has_number, is_one, is_row_of, lex_less, same_numbers, times_in}
-use Rattle.ep_base.specs.declared.operators.CompareOp.{CompareOp}
-use Rattle.ep_base.specs.Runs.{counting}
+use Rattle.ep_eval.proofs.Words.{◌≡◌, ◌≢◌, ℕ, suc, zero, ◌+◌, ◌<◌, ℤ, pos, ◌+ℤ◌, Bool, true, false, List, [], ◌∷◌, ◌++◌, length, get_or, take, refl, sym, ap, ◌∙◌, arith, add-one, Option, Some, None, option_map, not, ◌&&◌, ◌||◌, cond, ◌==◌, if◌then◌else◌, int_lt, list_all, list_any, int_eq, is_eq, Less, Equal, Greater, one_answer, Decides-int_eq, same_from_decides, eq_by_cmp_equiv, int_cmp_total, Contains-from_any, list_any-from_Contains, ints, count_by_more_no, count_by_more_yes, all_one, any_one, are_different, compare_holds, counts_hold, has_number, is_one, is_row_of, lex_less, same_numbers, times_in, CompareOp, counting}
+use Rattle.std.specs.Prelude.{Contains}
 
 -- ---- truths
 

@@ -1,10 +1,5 @@
 -- Lists that a loop copies or maps, and what names stand for.
-use Rattle.std.proofs.Common.{◌≡◌, ℕ, ◌+◌, ◌<◌, List, [], ◌∷◌, ◌++◌, length, take, get_or, refl, sym, ap, ◌∙◌}
-use Rattle.std.specs.Prelude.{map}
-use Rattle.std.proofs.lemmas.List.{map-append, take_more}
-use Rattle.ep_tree.specs.Values.{as_parts, value_and}
-use Rattle.ep_tree.specs.Views.{value_tree, values_from}
-use Rattle.ep_tree.specs.declared.values.Value.{Value}
+use Rattle.ep_eval.proofs.Words.{◌≡◌, ℕ, ◌+◌, ◌<◌, List, [], ◌∷◌, ◌++◌, length, take, get_or, refl, sym, ap, ◌∙◌, map, map-append, take_more, as_parts, value_and, value_tree, values_from, Value}
 
 -- one element more on either side
 pub map_more : {A B : Type 0} (f : A → B) (xs ys : List A) (x d : A) (i : ℕ) → i < length ys → map f xs ≡ map f (take i ys) → f x ≡ f (get_or ys i d)

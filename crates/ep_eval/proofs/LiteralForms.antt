@@ -1,36 +1,10 @@
 -- Lists in brackets by their parts.
-use Rattle.std.proofs.Common.{rules, vec_len, ◌≡◌, ℕ, ◌+◌, ◌<◌, ◌≤◌, Bool, true, false, List, [], ◌∷◌, ◌++◌, length, ℤ, pos, refl, sym, ap, ◌+ℤ◌, ◌-ℤ◌, ◌↔◌, subst, ◌∙◌, append_assoc, append-nil, arith}
-use Rattle.std.specs.Prelude.{zero, suc, ◌==◌, Option, Some, None, if◌then◌else◌, map, option_map, ◌≤ℤ◌}
+use Rattle.ep_eval.proofs.Words.{rules, vec_len, ◌≡◌, ℕ, ◌+◌, ◌<◌, ◌≤◌, Bool, true, false, List, [], ◌∷◌, ◌++◌, length, ℤ, pos, refl, sym, ap, ◌+ℤ◌, ◌-ℤ◌, ◌↔◌, subst, ◌∙◌, append_assoc, append-nil, arith, zero, suc, ◌==◌, Option, Some, None, if◌then◌else◌, map, option_map, ◌≤ℤ◌, Box, Any, ne_eqb, ints, length-append, All-cons, ascending_lists_are_equal, in_numbers, numbers_ascend, map_both, on_both, AreApart, IsAscending, IsIn, counting, numbers, numbers_in, or_zero, Place, Run, evaluate-literal, Env, domain_values, evaluate, index_values, matrix_value, values_of, met, met_all, met_domain, met_index, IndexDomain, literal, ValueTree, all_defined, as_parts, matrix, with_indices, domain_tree, expr_tree, expr_trees, Domain, Expr, Mode, index_at, Going, Told, Meter, Value}
 use Rattle.std.specs.declared.alloc.Global.{Global}
-use Rattle.std.specs.declared.boxed.Box.{Box}
 use Rattle.std.specs.declared.vec.Vec.{Vec}
-use Rattle.std.specs.List.{Any, Contains}
-use Rattle.std.proofs.lemmas.Bool.{ne_eqb}
-use Rattle.std.proofs.lemmas.Int.{ints}
-use Rattle.std.proofs.lemmas.List.{length-append}
-use Rattle.std.proofs.lemmas.List.Elements.{All-cons}
-use Rattle.ep_base.proofs.Ascending.{ascending_lists_are_equal}
-use Rattle.ep_base.proofs.RunSteps.{in_numbers, numbers_ascend}
-use Rattle.ep_base.specs.Options.{map_both, on_both}
-use Rattle.ep_base.specs.Runs.{AreApart, IsAscending, IsIn, counting, numbers, numbers_in, or_zero}
-use Rattle.ep_base.specs.declared.places.Place.{Place}
-use Rattle.ep_base.specs.declared.run_lists.Run.{Run}
-use Rattle.ep_tree.proofs.EvaluationEquations.{evaluate-literal}
-use Rattle.ep_tree.specs.Environments.{Env}
-use Rattle.ep_tree.specs.Evaluation.{domain_values, evaluate, index_values, matrix_value, values_of}
-use Rattle.ep_tree.specs.Measures.{met, met_all, met_domain, met_index}
-use Rattle.ep_tree.specs.Trees.{IndexDomain, literal}
-use Rattle.ep_tree.specs.Values.{ValueTree, all_defined, as_parts, matrix, with_indices}
-use Rattle.ep_tree.specs.Views.{domain_tree, expr_tree, expr_trees}
-use Rattle.ep_tree.specs.declared.syntax.Domain.{Domain}
-use Rattle.ep_tree.specs.declared.syntax.Expr.{Expr}
-use Rattle.ep_tree.specs.declared.values.Mode.{Mode}
-use Rattle.ep_forms.specs.Forms.{index_at}
+use Rattle.std.specs.List.{Contains}
 use Rattle.ep_eval.proofs.MeterSteps.{going_begins, going_ends, going_more, joins}
-use Rattle.ep_eval.specs.Meters.{Going, Told}
-use Rattle.ep_eval.specs.declared.meter.Meter.{Meter}
 use Rattle.ep_eval.proofs.PartSteps.{met_part, no_parts, values_part}
-use Rattle.ep_tree.specs.declared.values.Value.{Value}
 
 -- ---- parts one after another
 

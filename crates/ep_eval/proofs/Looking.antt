@@ -1,8 +1,5 @@
 -- What a name is worth.
-use Rattle.std.proofs.Common.{◌≡◌, refl}
-use Rattle.std.specs.Prelude.{Option, Some, None}
-use Rattle.ep_tree.specs.Environments.{Bound, has_cells, has_domain, has_value, value_bound}
-use Rattle.ep_eval.specs.Bounds.{only_value}
+use Rattle.ep_eval.proofs.Words.{◌≡◌, refl, Option, Some, None, Bound, has_cells, has_domain, has_value, value_bound, only_value}
 
 -- a name that stands for no value is worth nothing
 pub only_value-value : (b : Option Bound) → value_bound (only_value b) ≡ value_bound b

@@ -1,26 +1,8 @@
 -- How walks over nodes compose.
-use Rattle.std.proofs.Common.{◌≡◌, ◌⊎◌, ℕ, ◌+◌, ◌≤◌, ◌<◌, Bool, true, false, List, [], ◌∷◌, ◌++◌, length, refl, sym, ap, subst, ◌∙◌, inl, inr, arith}
-use Rattle.std.specs.Prelude.{◌||◌, Contains, Option, Some, None, ℤ, flat_map, if◌then◌else◌, is_some, nat_lt, sum_by}
-use Rattle.std.specs.List.{list_any}
-use Rattle.std.proofs.lemmas.Bool.{or_from, or_left, or_right}
-use Rattle.std.proofs.lemmas.List.{append-nil, append_assoc, length-append}
-use Rattle.std.proofs.lemmas.List.Sums.{sum_by-append, sum_by-cons}
-use Rattle.ep_base.specs.Reads.{is_too_far}
+use Rattle.ep_eval.proofs.Words.{◌≡◌, ◌⊎◌, ℕ, ◌+◌, ◌≤◌, ◌<◌, Bool, true, false, List, [], ◌∷◌, ◌++◌, length, refl, sym, ap, subst, ◌∙◌, inl, inr, arith, ◌||◌, Option, Some, None, ℤ, flat_map, if◌then◌else◌, is_some, nat_lt, sum_by, list_any, or_from, or_left, or_right, append-nil, append_assoc, length-append, sum_by-append, sum_by-cons, is_too_far, Env, MOST_SIZE, limits_of_values, numbers_at, Met, met, met_names, ExprTree, quantified, ValueTree, Mode, Counted, is_far_value, seen_held, Counts, IsPassed, IsWorth, Passes, SettlesWorth, Told, Walked, Walking, Went, has_far, is_far_worth, Held, Meter, Worth, Seen, Far}
+use Rattle.std.specs.Prelude.{Contains}
 use Rattle.ep_base.specs.declared.operators.Limit.{Limit as LimitName}
-use Rattle.ep_tree.specs.Environments.{Env}
-use Rattle.ep_tree.specs.Limits.{MOST_SIZE, limits_of_values, numbers_at}
-use Rattle.ep_tree.specs.Measures.{Met, met, met_names}
-use Rattle.ep_tree.specs.Trees.{ExprTree, quantified}
-use Rattle.ep_tree.specs.Values.{ValueTree}
-use Rattle.ep_tree.specs.declared.values.Mode.{Mode}
 use Rattle.ep_eval.proofs.Countings.{any_append, flat_append, passed_limits}
-use Rattle.ep_eval.specs.Counting.{Counted, is_far_value}
-use Rattle.ep_eval.specs.Helds.{seen_held}
-use Rattle.ep_eval.specs.Meters.{Counts, IsPassed, IsWorth, Passes, SettlesWorth, Told, Walked, Walking, Went, has_far, is_far_worth}
-use Rattle.ep_eval.specs.declared.held.Held.{Held}
-use Rattle.ep_eval.specs.declared.meter.Meter.{Meter}
-use Rattle.ep_eval.specs.declared.worth.Worth.{Worth}
-use Rattle.ep_eval.specs.declared.worth.Worth.TheVariants.{Seen, Far}
 
 -- nodes reach too far where some of them do
 pub record Joins (far : List Met → Bool) : Type 0 where

@@ -1,19 +1,6 @@
 -- Truths of expressions one after another.
-use Rattle.std.proofs.Common.{◌≡◌, Bool, true, false, List, [], ◌∷◌, ◌++◌, ℤ, refl, sym, ap, ◌∙◌}
-use Rattle.std.specs.Prelude.{Option, Some, None, map, option_map}
-use Rattle.ep_base.specs.Numbers.{all_one, any_one, is_one}
-use Rattle.ep_base.specs.Options.{map_both}
-use Rattle.ep_tree.specs.Environments.{Env}
-use Rattle.ep_tree.specs.Evaluation.{all_true, any_true, evaluate, number_in, truth_of, values_of}
-use Rattle.ep_tree.specs.Measures.{met, met_all}
-use Rattle.ep_tree.specs.Values.{ValueTree, all_defined}
-use Rattle.ep_tree.specs.Views.{expr_tree, expr_trees}
-use Rattle.ep_tree.specs.declared.syntax.Expr.{Expr}
-use Rattle.ep_tree.specs.declared.values.Mode.{Mode}
-use Rattle.ep_eval.specs.Counting.{of_all, together}
+use Rattle.ep_eval.proofs.Words.{◌≡◌, Bool, true, false, List, [], ◌∷◌, ◌++◌, ℤ, refl, sym, ap, ◌∙◌, Option, Some, None, map, option_map, all_one, any_one, is_one, map_both, Env, all_true, any_true, evaluate, number_in, truth_of, values_of, met, met_all, ValueTree, all_defined, expr_tree, expr_trees, Expr, Mode, of_all, together, Going, Told, Meter}
 use Rattle.ep_eval.proofs.MeterSteps.{going_begins, going_ends, going_more, joins}
-use Rattle.ep_eval.specs.Meters.{Going, Told}
-use Rattle.ep_eval.specs.declared.meter.Meter.{Meter}
 
 first_unit : (e : Bool) (o : Option Bool) → map_both (together e) (Some e) o ≡ o
 unfolding map_both together

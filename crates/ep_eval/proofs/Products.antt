@@ -1,21 +1,5 @@
 -- Products of numbers one after another: powers, factorials, and the parts of a matrix.
-use Rattle.std.proofs.Common.{◌≡◌, ℕ, suc, zero, ◌+◌, ◌*◌, ◌-◌, ◌%◌, ◌≤◌, ◌<◌, ℤ, pos, negsuc, ◌*ℤ◌, Bool, true, false, List, [], ◌∷◌, refl, sym, ap, subst, ◌∙◌, arith, add-one, add-zero, FitsSigned, SFits, w64, lit<}
-use Rattle.std.specs.Prelude.{◌||◌, int_lt, neg_ℤ, unsigned_abs, None, option_and_then, Some, Result, Ok, Err, Option}
-use Rattle.std.specs.Int.{w128}
-use Rattle.std.specs.List.{list_any}
-use Rattle.std.proofs.lemmas.Int.{ints, fits_signed_mul, unsigned_abs-mul}
-use Rattle.std.proofs.Math.Nat.{add-suc, mul_assoc}
-use Rattle.ep_base.specs.Numbers.{absolute_of, factorial_of, nth_power, power, product_of, product_to}
-use Rattle.ep_base.specs.Reads.{is_too_far}
-use Rattle.ep_numbers.proofs.PowerLaws.{abs_far, far_abs, least_one, near_abs}
-use Rattle.ep_tree.specs.Limits.{products_from}
-use Rattle.ep_tree.specs.Evaluation.{number_in, number_value}
-use Rattle.ep_tree.specs.Values.{single}
-use Rattle.ep_eval.specs.Counting.{Gives}
-use Rattle.ep_eval.specs.Folding.{GivesAt}
-use Rattle.ep_eval.specs.declared.errors.EvalError.{EvalError}
-use Rattle.ep_eval.specs.declared.errors.EvalError.TheVariants.{Limit, Memory}
-use Rattle.ep_eval.specs.declared.held.Held.{Held}
+use Rattle.ep_eval.proofs.Words.{◌≡◌, ℕ, suc, zero, ◌+◌, ◌*◌, ◌-◌, ◌%◌, ◌≤◌, ◌<◌, ℤ, pos, negsuc, ◌*ℤ◌, Bool, true, false, List, [], ◌∷◌, refl, sym, ap, subst, ◌∙◌, arith, add-one, add-zero, FitsSigned, SFits, w64, lit<, ◌||◌, int_lt, neg_ℤ, unsigned_abs, None, option_and_then, Some, Result, Ok, Err, Option, w128, list_any, ints, fits_signed_mul, unsigned_abs-mul, add-suc, mul_assoc, absolute_of, factorial_of, nth_power, power, product_of, product_to, is_too_far, abs_far, far_abs, least_one, near_abs, products_from, number_in, number_value, single, Gives, GivesAt, EvalError, Limit, Memory, Held}
 
 half_negated : (a c : ℤ) → (a *ℤ neg_ℤ c) ≡ neg_ℤ (a *ℤ c)
 half_negated a c = grind (arith, ints)

@@ -1,14 +1,5 @@
 -- Forms of two numbers.
-use Rattle.std.proofs.Common.{◌≡◌, ℕ, zero, suc, ℤ, pos, negsuc, ◌-ℤ◌, ◌*ℤ◌, Bool, true, false, refl, sym, ap, arith}
-use Rattle.std.specs.Prelude.{Option, Some, None, int_lt, neg_ℤ, not, ◌||◌}
-use Rattle.ep_base.specs.Numbers.{compare_holds, is_one, of_bool}
-use Rattle.ep_base.specs.Options.{on_both}
-use Rattle.ep_base.specs.declared.operators.CompareOp.{CompareOp}
-use Rattle.ep_tree.specs.Evaluation.{binary_number, binary_value, joins_truths, number_value, truth_in}
-use Rattle.ep_tree.specs.Values.{single}
-use Rattle.ep_tree.specs.declared.syntax.BinaryOp.{BinaryOp}
-use Rattle.ep_tree.specs.declared.values.Mode.{Mode}
-use Rattle.ep_eval.specs.Counting.{undefined_binary}
+use Rattle.ep_eval.proofs.Words.{◌≡◌, ℕ, zero, suc, ℤ, pos, negsuc, ◌-ℤ◌, ◌*ℤ◌, Bool, true, false, refl, sym, ap, arith, Option, Some, None, int_lt, neg_ℤ, not, ◌||◌, compare_holds, is_one, of_bool, on_both, CompareOp, binary_number, binary_value, joins_truths, number_value, truth_in, single, BinaryOp, Mode, undefined_binary}
 
 -- ---- two numbers with an operator between them
 

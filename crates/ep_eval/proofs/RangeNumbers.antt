@@ -1,40 +1,9 @@
 -- The numbers of ranges, told by their runs.
-use Rattle.std.proofs.Common.{◌≡◌, ◌≢◌, ◌<◌, ◌<ℤ◌, zero, suc, get_or, length, ◌↔◌, ◌∙◌, ◌≤◌, ℕ, Bool, true, false, ◌&&◌, ◌||◌, ℤ, pos, List, [], ◌∷◌, ◌++◌, Option, Some, None, option_map, refl, sym, ap, subst, arith}
-use Rattle.std.specs.Prelude.{int_le}
-use Rattle.std.specs.Ordering.{int_eq}
-use Rattle.std.specs.List.{Any, Contains, list_any}
-use Rattle.std.proofs.lemmas.Bool.Decides.{Decides-int_eq}
-use Rattle.std.proofs.lemmas.Cmp.{int_eq_equiv}
-use Rattle.std.proofs.lemmas.Int.{ints}
-use Rattle.std.proofs.lemmas.List.{append-nil}
-use Rattle.std.proofs.lemmas.List.Folds.{Any-from_list_any, list_any-append, list_any-from_Any}
-use Rattle.std.proofs.lemmas.Map.Views.{Contains-from_any, list_any-from_Contains}
-use Rattle.std.proofs.Math.Bool.{or-false}
+use Rattle.ep_eval.proofs.Words.{◌≡◌, ◌≢◌, ◌<◌, ◌<ℤ◌, zero, suc, get_or, length, ◌↔◌, ◌∙◌, ◌≤◌, ℕ, Bool, true, false, ◌&&◌, ◌||◌, ℤ, pos, List, [], ◌∷◌, ◌++◌, Option, Some, None, option_map, refl, sym, ap, subst, arith, int_le, int_eq, Any, list_any, Decides-int_eq, int_eq_equiv, ints, append-nil, Any-from_list_any, list_any-append, list_any-from_Any, Contains-from_any, list_any-from_Contains, or-false, ascending_cons, ascending_lists_are_equal, some_is, has_number, map_both, IsAscending, IsIn, Run, between-has, put_in-has, united-has, with_range-one, with_range-span, between, put_in, united, Bound, Env, domain_bound, has_cells, has_domain, has_value, Scalar, only_domain, end_value, evaluate, number_in, range_values, met, met_end, met_ranges, no_ranges, end_of, expr_tree, held_end, kind_tree, ranges_of, with_range, Expr, One, One', Range, Span, Span', Mode, Going, Told, Meter, alone, has_in, run_has, runs_have}
+use Rattle.std.specs.List.{Contains}
 use Rattle.std.specs.declared.vec.Vec.{Vec}
 use Rattle.std.specs.declared.alloc.Global.{Global}
-use Rattle.ep_base.proofs.Ascending.{ascending_cons, ascending_lists_are_equal}
-use Rattle.ep_base.proofs.Small.{some_is}
-use Rattle.ep_base.specs.Numbers.{has_number}
-use Rattle.ep_base.specs.Options.{map_both}
-use Rattle.ep_base.specs.Runs.{IsAscending, IsIn}
-use Rattle.ep_base.specs.declared.run_lists.Run.{Run}
-use Rattle.ep_tree.proofs.DomainLaws.{between-has, put_in-has, united-has}
-use Rattle.ep_tree.proofs.ViewLemmas.{with_range-one, with_range-span}
-use Rattle.ep_tree.specs.Domains.{between, put_in, united}
-use Rattle.ep_tree.specs.Environments.{Bound, Env, domain_bound, has_cells, has_domain, has_value}
-use Rattle.ep_tree.specs.declared.values.Scalar.{Scalar}
-use Rattle.ep_eval.specs.Bounds.{only_domain}
-use Rattle.ep_tree.specs.Evaluation.{end_value, evaluate, number_in, range_values}
-use Rattle.ep_tree.specs.Measures.{met, met_end, met_ranges}
-use Rattle.ep_tree.specs.Trees.{no_ranges}
-use Rattle.ep_tree.specs.Views.{end_of, expr_tree, held_end, kind_tree, ranges_of, with_range}
-use Rattle.ep_tree.specs.declared.syntax.Expr.{Expr}
-use Rattle.ep_tree.specs.declared.syntax.Range.{One, One', Range, Span, Span'}
-use Rattle.ep_tree.specs.declared.values.Mode.{Mode}
 use Rattle.ep_eval.proofs.MeterSteps.{going_begins, going_ends, going_more, joins}
-use Rattle.ep_eval.specs.Meters.{Going, Told}
-use Rattle.ep_eval.specs.declared.meter.Meter.{Meter}
-use Rattle.ep_eval.specs.Ranges.{alone, has_in, run_has, runs_have}
 
 -- ---- ends
 

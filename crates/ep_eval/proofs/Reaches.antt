@@ -1,17 +1,5 @@
 -- Which numbers are too far from 0.
-use Rattle.std.proofs.Common.{◌≡◌, [], ◌∷◌, ℤ, pos, negsuc, true, false, refl, arith, ℕ, SFits, w64, of_z, to_z, nat_eq, sym, ap, subst, ◌∙◌}
-use Rattle.std.specs.Bool.{one_answer}
-use Rattle.std.specs.Ordering.{int_eq}
-use Rattle.std.proofs.lemmas.Bool.Decides.{Decides-int_eq}
-use Rattle.ep_base.specs.Numbers.{is_one}
-use Rattle.std.specs.Prelude.{Some, int_lt, nat_abs}
-use Rattle.std.specs.List.{list_any}
-use Rattle.ep_tree.specs.Evaluation.{number_in}
-use Rattle.ep_tree.specs.Values.{single}
-use Rattle.ep_eval.specs.Counting.{is_far_value}
-use Rattle.std.proofs.lemmas.Int.{ints, to_z-of_z}
-use Rattle.ep_base.specs.Numbers.{absolute_of}
-use Rattle.ep_base.specs.Reads.{is_too_far}
+use Rattle.ep_eval.proofs.Words.{◌≡◌, [], ◌∷◌, ℤ, pos, negsuc, true, false, refl, arith, ℕ, SFits, w64, of_z, to_z, nat_eq, sym, ap, subst, ◌∙◌, one_answer, int_eq, Decides-int_eq, is_one, Some, int_lt, nat_abs, list_any, number_in, single, is_far_value, ints, to_z-of_z, absolute_of, is_too_far}
 
 same_number : (m n : ℕ) → nat_eq m n ≡ true → m ≡ n
 same_number m n h = grind arith

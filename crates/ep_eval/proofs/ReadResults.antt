@@ -1,11 +1,5 @@
 -- What a read gives where it finds something, and where it doesn't.
-use Rattle.std.proofs.Common.{◌≡◌, Some, None, pos, refl}
-use Rattle.std.specs.Prelude.{if◌then◌else◌}
-use Rattle.ep_tree.specs.Evaluation.{read_result}
-use Rattle.ep_tree.specs.Types.{is_boolean}
-use Rattle.ep_tree.specs.Values.{ValueTree, single}
-use Rattle.ep_tree.specs.declared.values.Mode.{Mode}
-use Rattle.ep_tree.specs.declared.values.ValueType.{ValueType}
+use Rattle.ep_eval.proofs.Words.{◌≡◌, Some, None, pos, refl, if◌then◌else◌, read_result, is_boolean, ValueTree, single, Mode, ValueType}
 
 pub read_found : (mode : Mode) (t : ValueType) (v : ValueTree) → Some v ≡ read_result mode t (Some v)
 unfolding read_result

@@ -1,14 +1,5 @@
 -- Reads of matrices, one index after another.
-use Rattle.std.proofs.Common.{◌≡◌, Bool, List, [], ◌∷◌, ◌++◌, length, ℤ, Option, Some, None, option_map, refl, sym, ap, ◌∙◌, arith}
-use Rattle.std.specs.Prelude.{IfOk, Result, Ok, Err, if◌then◌else◌, map, option_and_then}
-use Rattle.std.proofs.lemmas.List.{append-nil}
-use Rattle.ep_base.specs.Numbers.{compare_holds}
-use Rattle.ep_base.specs.Options.{on_both}
-use Rattle.ep_base.specs.declared.operators.CompareOp.{CompareOp}
-use Rattle.ep_tree.specs.Values.{Index, ValueTree, all_defined, any_index, as_parts, at_index, index_in, indices_in, listed_values, matrix, part_at, read_value, single}
-use Rattle.ep_tree.specs.Views.{value_tree, values_from}
-use Rattle.ep_tree.specs.declared.values.Value.{Value}
-use Rattle.ep_eval.specs.Reading.{part_under}
+use Rattle.ep_eval.proofs.Words.{◌≡◌, Bool, List, [], ◌∷◌, ◌++◌, length, ℤ, Option, Some, None, option_map, refl, sym, ap, ◌∙◌, arith, IfOk, Result, Ok, Err, if◌then◌else◌, map, option_and_then, append-nil, compare_holds, on_both, CompareOp, Index, ValueTree, all_defined, any_index, as_parts, at_index, index_in, indices_in, listed_values, matrix, part_at, read_value, single, value_tree, values_from, Value, part_under}
 
 -- one index further
 pub part_next : (own js : List ℤ) (parts rest : List Value) (x i : ℤ) (v : Value) (b : Bool) → own ≡ x ∷ js → parts ≡ v ∷ rest → b ≡ compare_holds CompareOp.Equal i x

@@ -1,17 +1,5 @@
 -- Which domains are those of Booleans, form by form.
-use Rattle.std.proofs.Common.{◌≡◌, ◌≢◌, ◌+◌, ◌<◌, Bool, true, false, ◌&&◌, List, [], ◌∷◌, length, ℤ, Option, Some, None, option_map, refl, arith}
-use Rattle.ep_base.specs.declared.places.Place.{Place}
-use Rattle.ep_tree.specs.Environments.{Bound, Env, context_of, domain_bound, has_cells, has_domain, has_value, meaning_in, scalar_in, shape_type}
-use Rattle.ep_tree.specs.Evaluation.{domain_values}
-use Rattle.ep_tree.specs.Trees.{DomainTree, Domains, Ranges, bool, group_domain, int, matrix_domain, named_domain, ranges, set_domain}
-use Rattle.ep_tree.specs.Types.{Context, Judged, all_typed, both_scalars, can_index, from_all, from_many, from_one, from_two, gives, is_boolean, is_integer, judge_domain, judge_domains, judge_ranges, matrix_type, mistyped, named_domain_type, of_scalar, scalar_of, type_from, typed, untyped}
-use Rattle.ep_tree.specs.declared.values.Mode.{Mode}
-use Rattle.ep_tree.specs.declared.values.Scalar.{Scalar}
-use Rattle.ep_tree.specs.declared.values.ValueType.{ValueType}
-use Rattle.std.specs.Prelude.{unwrap_or}
-use Rattle.std.specs.List.{list_all}
-use Rattle.ep_eval.specs.Bounds.{only_domain}
-use Rattle.ep_eval.specs.Scalars.{is_of_booleans, scalar_if}
+use Rattle.ep_eval.proofs.Words.{◌≡◌, ◌≢◌, ◌+◌, ◌<◌, Bool, true, false, ◌&&◌, List, [], ◌∷◌, length, ℤ, Option, Some, None, option_map, refl, arith, Place, Bound, Env, context_of, domain_bound, has_cells, has_domain, has_value, meaning_in, scalar_in, shape_type, domain_values, DomainTree, Domains, Ranges, bool, group_domain, int, matrix_domain, named_domain, ranges, set_domain, Context, Judged, all_typed, both_scalars, can_index, from_all, from_many, from_one, from_two, gives, is_boolean, is_integer, judge_domain, judge_domains, judge_ranges, matrix_type, mistyped, named_domain_type, of_scalar, scalar_of, type_from, typed, untyped, Mode, Scalar, ValueType, unwrap_or, list_all, only_domain, is_of_booleans, scalar_if}
 
 -- ---- names
 

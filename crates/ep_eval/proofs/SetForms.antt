@@ -1,13 +1,6 @@
 -- Matrix domains by the domains in them.
-use Rattle.std.proofs.Common.{◌≡◌, List, [], ◌∷◌, ◌++◌, refl, ap, ◌∙◌}
-use Rattle.ep_tree.specs.Environments.{Env}
-use Rattle.ep_tree.specs.Measures.{met_domain, met_domains}
-use Rattle.ep_tree.specs.Views.{domain_tree, domains_of}
-use Rattle.ep_tree.specs.declared.syntax.Domain.{Domain}
-use Rattle.ep_tree.specs.declared.values.Mode.{Mode}
+use Rattle.ep_eval.proofs.Words.{◌≡◌, List, [], ◌∷◌, ◌++◌, refl, ap, ◌∙◌, Env, met_domain, met_domains, domain_tree, domains_of, Domain, Mode, Going, Told, Meter}
 use Rattle.ep_eval.proofs.MeterSteps.{going_begins, going_ends, going_more, joins}
-use Rattle.ep_eval.specs.Meters.{Going, Told}
-use Rattle.ep_eval.specs.declared.meter.Meter.{Meter}
 
 -- some domains are evaluated, and others are left
 abbrev pub DomainsSoFar : Mode → Env → Meter → Meter → List Domain → List Domain → Type 0

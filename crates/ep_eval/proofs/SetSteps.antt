@@ -1,22 +1,7 @@
 -- Operations on sets of numbers, run by run.
-use Rattle.std.proofs.Common.{◌≡◌, ℕ, ◌+◌, ◌<◌, ◌≤◌, Bool, true, false, not, ◌&&◌, ◌||◌, List, [], ◌∷◌, ◌++◌, length, take, get_or, ℤ, pos, ◌+ℤ◌, ◌-ℤ◌, Some, refl, sym, ap, ap₂, subst, ◌∙◌, arith, ◌↔◌}
-use Rattle.std.specs.Prelude.{int_le, int_lt}
-use Rattle.std.specs.Int.{int_max, int_min}
-use Rattle.std.specs.Ordering.{int_eq}
-use Rattle.std.specs.List.{Any, Contains}
-use Rattle.std.proofs.lemmas.Int.{ints}
-use Rattle.std.proofs.lemmas.List.{take_all, take_more}
-use Rattle.std.proofs.lemmas.List.Folds.{list_any-append}
-use Rattle.std.proofs.Math.Bool.{or-false}
-use Rattle.ep_base.proofs.Small.{some_is}
-use Rattle.ep_base.specs.Numbers.{has_number}
-use Rattle.ep_base.specs.Runs.{IsAscending, IsIn, numbers, numbers_in}
-use Rattle.ep_base.specs.declared.run_lists.Run.{Run}
-use Rattle.ep_tree.proofs.DomainLaws.{between-has, set_values-has}
-use Rattle.ep_tree.specs.Domains.{between, count_between, set_has, set_values}
-use Rattle.ep_tree.specs.declared.syntax.SetOp.{SetOp}
+use Rattle.ep_eval.proofs.Words.{◌≡◌, ℕ, ◌+◌, ◌<◌, ◌≤◌, Bool, true, false, not, ◌&&◌, ◌||◌, List, [], ◌∷◌, ◌++◌, length, take, get_or, ℤ, pos, ◌+ℤ◌, ◌-ℤ◌, Some, refl, sym, ap, ap₂, subst, ◌∙◌, arith, ◌↔◌, int_le, int_lt, int_max, int_min, int_eq, Any, ints, take_all, take_more, list_any-append, or-false, some_is, has_number, IsAscending, IsIn, numbers, numbers_in, Run, between-has, set_values-has, between, count_between, set_has, set_values, SetOp, run_has, runs_have}
+use Rattle.std.specs.List.{Contains}
 use Rattle.ep_eval.proofs.RangeNumbers.{set_is}
-use Rattle.ep_eval.specs.Ranges.{run_has, runs_have}
 
 -- one run behind others
 pub has_behind : (n : ℤ) (runs : List Run) (run : Run) → runs_have n (runs ++ run ∷ []) ≡ (runs_have n runs || run_has n run)

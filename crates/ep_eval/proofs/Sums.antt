@@ -1,8 +1,5 @@
 -- Sums of numbers one after another.
-use Rattle.std.proofs.Common.{◌≡◌, ◌+◌, ◌*◌, ◌≤◌, ◌+ℤ◌, ℕ, ℤ, List, [], ◌∷◌, sym, ap, ◌∙◌, arith, SFits, w64}
-use Rattle.std.specs.Prelude.{unsigned_abs}
-use Rattle.std.proofs.lemmas.Int.{ints}
-use Rattle.ep_base.specs.Numbers.{sum_of}
+use Rattle.ep_eval.proofs.Words.{◌≡◌, ◌+◌, ◌*◌, ◌≤◌, ◌+ℤ◌, ℕ, ℤ, List, [], ◌∷◌, sym, ap, ◌∙◌, arith, SFits, w64, unsigned_abs, ints, sum_of}
 
 added : (a x r : ℤ) → a +ℤ (x +ℤ r) ≡ (a +ℤ x) +ℤ r
 added a x r = omega (arith, ints)

@@ -1,21 +1,6 @@
 -- Totals of terms one after another.
-use Rattle.std.proofs.Common.{true, false, ◌≡◌, ℕ, ◌+◌, ◌*◌, ◌≤◌, Bool, List, [], ◌∷◌, ◌++◌, ℤ, pos, ◌+ℤ◌, ◌-ℤ◌, FitsSigned, SFits, w64, refl, sym, ap, subst, arith, ◌∙◌}
-use Rattle.std.specs.Prelude.{Option, Some, None, option_map, neg_ℤ}
-use Rattle.std.specs.Int.{w128}
-use Rattle.std.proofs.lemmas.Int.{ints}
-use Rattle.ep_base.specs.Numbers.{sum_of}
-use Rattle.ep_base.specs.Options.{map_both}
-use Rattle.ep_tree.specs.Environments.{Env}
-use Rattle.ep_tree.specs.Evaluation.{evaluate, number_in, signed, term_values}
-use Rattle.ep_tree.specs.Measures.{met, met_terms}
-use Rattle.ep_tree.specs.Values.{ValueTree, all_defined}
-use Rattle.ep_tree.specs.Views.{expr_tree, terms_of}
-use Rattle.ep_tree.specs.declared.syntax.Expr.{Expr}
-use Rattle.ep_tree.specs.declared.values.Mode.{Mode}
-use Rattle.ep_eval.specs.Counting.{IsWithin}
+use Rattle.ep_eval.proofs.Words.{true, false, ◌≡◌, ℕ, ◌+◌, ◌*◌, ◌≤◌, Bool, List, [], ◌∷◌, ◌++◌, ℤ, pos, ◌+ℤ◌, ◌-ℤ◌, FitsSigned, SFits, w64, refl, sym, ap, subst, arith, ◌∙◌, Option, Some, None, option_map, neg_ℤ, w128, ints, sum_of, map_both, Env, evaluate, number_in, signed, term_values, met, met_terms, ValueTree, all_defined, expr_tree, terms_of, Expr, Mode, IsWithin, Going, Told, Meter}
 use Rattle.ep_eval.proofs.MeterSteps.{going_begins, going_ends, going_more_at, joins, meets_some}
-use Rattle.ep_eval.specs.Meters.{Going, Told}
-use Rattle.ep_eval.specs.declared.meter.Meter.{Meter}
 
 nothing_more : (o : Option ℤ) → map_both ◌+ℤ◌ (Some (pos 0)) o ≡ o
 unfolding map_both

@@ -1,38 +1,11 @@
 -- The names of quantifiers and generators where expressions are typed, and the types of the forms that have them.
-use Rattle.std.proofs.Common.{◌≡◌, ◌≢◌, ℕ, ◌+◌, ◌<◌, length, drop, get_or, Bool, true, false, ◌&&◌, if◌then◌else◌, List, [], ◌∷◌, ◌++◌, Option, Some, None, option_map, refl, sym, ap, subst, ◌∙◌}
-use Rattle.std.proofs.Math.Bool.{and-false}
-use Rattle.std.specs.Prelude.{bytes_eq, unwrap_or}
-use Rattle.std.specs.List.{list_all}
+use Rattle.ep_eval.proofs.Words.{◌≡◌, ◌≢◌, ℕ, ◌+◌, ◌<◌, length, drop, get_or, Bool, true, false, ◌&&◌, if◌then◌else◌, List, [], ◌∷◌, ◌++◌, Option, Some, None, option_map, refl, sym, ap, subst, ◌∙◌, and-false, bytes_eq, unwrap_or, list_all, Box, map_both, Name, Place, kind_tree-comprehension, kind_tree-quantified, judge-comprehension, judge-quantified, Bound, has_cells, has_domain, has_value, meaning_in, put, DomainTree, ExprTree, ExprTrees, Generators, IndexDomain, comprehension, quantified, Context, Judged, a_value, all_typed, comprehension_type, from_all, from_many, from_one, gives, indexed_type, inside, inside_all, is_boolean, is_integer, judge, judge_all, judge_domain, judge_generators, judge_index, list_type, mistyped, named_domain_type, of_scalar, quantified_name, reading_contexts, type_from, typed, untyped, domain_tree, expr_tree, expr_trees, generators_of, kind_tree, Domain, Expr, Generator, Comprehension, Kind, Quant, QuantOp, Scalar, ValueType, next_is, only_domain, all_pass, domain_type_at, list_of, name_scalar, passes, quantified_part, type_of_quantifier, type_at, type_if, index_at, AreNamesTyped, inside_names, readings, typed_meaning, with_typed, Wanted, TypedName}
 use Rattle.std.specs.declared.alloc.Global.{Global}
-use Rattle.std.specs.declared.boxed.Box.{Box}
 use Rattle.std.specs.declared.vec.Vec.{Vec}
-use Rattle.ep_base.specs.Options.{map_both}
-use Rattle.ep_base.specs.declared.names.Name.{Name}
-use Rattle.ep_base.specs.declared.places.Place.{Place}
-use Rattle.ep_tree.proofs.ViewLemmas.{kind_tree-comprehension, kind_tree-quantified}
-use Rattle.ep_tree.proofs.TypeEquations.{judge-comprehension, judge-quantified}
-use Rattle.ep_tree.specs.Environments.{Bound, has_cells, has_domain, has_value, meaning_in}
-use Rattle.ep_tree.specs.Names.{put}
-use Rattle.ep_tree.specs.Trees.{DomainTree, ExprTree, ExprTrees, Generators, IndexDomain, comprehension, quantified}
 use Rattle.ep_tree.specs.Types as types
-use Rattle.ep_tree.specs.Types.{Context, Judged, Meaning, a_value, all_typed, comprehension_type, from_all, from_many, from_one, gives, indexed_type, inside, inside_all, is_boolean, is_integer, judge, judge_all, judge_domain, judge_generators, judge_index, list_type, mistyped, named_domain_type, of_scalar, quantified_name, reading_contexts, type_from, typed, untyped}
-use Rattle.ep_tree.specs.Views.{domain_tree, expr_tree, expr_trees, generators_of, kind_tree}
-use Rattle.ep_tree.specs.declared.syntax.Domain.{Domain}
-use Rattle.ep_tree.specs.declared.syntax.Expr.{Expr}
-use Rattle.ep_tree.specs.declared.syntax.Generator.{Generator}
-use Rattle.ep_tree.specs.declared.syntax.Kind.{Comprehension, Kind, Quant}
-use Rattle.ep_tree.specs.declared.syntax.QuantOp.{QuantOp}
-use Rattle.ep_tree.specs.declared.values.Scalar.{Scalar}
-use Rattle.ep_tree.specs.declared.values.ValueType.{ValueType}
-use Rattle.ep_types_rules.proofs.RuleSteps.{next_is}
+use Rattle.ep_tree.specs.Types.{Meaning}
 use Rattle.ep_eval.proofs.DomainTypes.{index_is, pass_append}
 use Rattle.ep_eval.proofs.JudgingForms.{first_all, given_by, typed_more}
-use Rattle.ep_eval.specs.Bounds.{only_domain}
-use Rattle.ep_eval.specs.Judging.{all_pass, domain_type_at, list_of, name_scalar, passes, quantified_part, type_of_quantifier, type_at, type_if}
-use Rattle.ep_forms.specs.Forms.{index_at}
-use Rattle.ep_eval.specs.Typing.{AreNamesTyped, inside_names, readings, typed_meaning, with_typed}
-use Rattle.ep_eval.specs.declared.rules.Wanted.{Wanted}
-use Rattle.ep_eval.specs.declared.within.TypedName.{TypedName}
 
 -- ---- what a name stands for behind typed names
 

@@ -1,9 +1,5 @@
 -- The scalars and the rows of values, one part after another.
-use Rattle.std.proofs.Common.{◌≡◌, ℤ, List, [], ◌∷◌, ◌++◌, refl, ap}
-use Rattle.std.specs.Prelude.{map}
-use Rattle.ep_tree.specs.Values.{listed_values, matrix, rows_of, scalars_of, scalars_of_all, single}
-use Rattle.ep_tree.specs.Views.{value_tree, values_from}
-use Rattle.ep_tree.specs.declared.values.Value.{Value}
+use Rattle.ep_eval.proofs.Words.{◌≡◌, ℤ, List, [], ◌∷◌, ◌++◌, refl, ap, map, listed_values, matrix, rows_of, scalars_of, scalars_of_all, single, value_tree, values_from, Value}
 
 pub scalars_single : (n : ℤ) → scalars_of (single n) ≡ n ∷ []
 unfolding scalars_of

@@ -1,10 +1,5 @@
 -- The numbers of runs, one after another.
-use Rattle.std.proofs.Common.{◌≡◌, ℕ, suc, ℤ, pos, negsuc, ◌+ℤ◌, ◌-ℤ◌, ◌≤ℤ◌, ◌<ℤ◌, List, [], ◌∷◌, ◌++◌, length, Some, refl, sym, ap, ◌∙◌, arith}
-use Rattle.std.proofs.lemmas.Int.{ints}
-use Rattle.ep_base.specs.Runs.{counting, numbers, numbers_in, or_zero}
-use Rattle.ep_base.specs.declared.run_lists.Run.{Run}
-use Rattle.ep_numbers.proofs.Counting.{counting_first, counting_step}
-use Rattle.ep_eval.specs.Walking.{left_in}
+use Rattle.ep_eval.proofs.Words.{◌≡◌, ℕ, suc, ℤ, pos, negsuc, ◌+ℤ◌, ◌-ℤ◌, ◌≤ℤ◌, ◌<ℤ◌, List, [], ◌∷◌, ◌++◌, length, Some, refl, sym, ap, ◌∙◌, arith, ints, counting, numbers, numbers_in, or_zero, Run, counting_first, counting_step, left_in}
 
 -- a list without a part
 pub no_runs : {A : Type 0} (xs : List A) → length xs ≡ 0 → xs ≡ []

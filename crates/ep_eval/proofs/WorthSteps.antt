@@ -1,35 +1,6 @@
 -- What operators give, as worths; what nodes of a family are.
-use Rattle.std.proofs.Common.{◌≡◌, Bool, true, false, List, [], ◌∷◌, ◌++◌, ℤ, pos, refl, sym, ap, subst, ◌∙◌}
-use Rattle.std.specs.Prelude.{Option, Some, None, Result, Ok, Err, option_to_list, unwrap_or}
-use Rattle.std.specs.List.{list_any}
-use Rattle.std.proofs.lemmas.Bool.{or_left}
-use Rattle.ep_base.specs.Reads.{is_too_far}
-use Rattle.ep_base.specs.declared.places.Place.{Place}
-use Rattle.ep_forms.specs.Forms.{counts_node, one_node, truths_node, two_node}
-use Rattle.ep_forms.specs.declared.forms.CountOp.{CountOp}
-use Rattle.ep_forms.specs.declared.forms.OneOp.{OneOp}
-use Rattle.ep_forms.specs.declared.forms.OneOp.TheVariants.{Group, Not, Neg, Abs, ToInt, Factorial, Flatten, AllDiff, Fold}
-use Rattle.ep_forms.specs.declared.forms.TwoOp.{TwoOp}
-use Rattle.ep_forms.specs.declared.forms.TwoOp.TheVariants.{Binary, Compare, Lex, InSet, Table}
-use Rattle.ep_tree.specs.Environments.{Env}
-use Rattle.ep_tree.specs.Evaluation.{evaluate, folded_value, number_in, truth_in, values_of}
-use Rattle.ep_tree.specs.Limits.{numbers_at, products_from}
-use Rattle.ep_tree.specs.Measures.{a_node, met, met_all}
-use Rattle.ep_tree.specs.Trees.{ExprTree, ExprTrees}
-use Rattle.ep_tree.specs.Values.{ValueTree}
-use Rattle.ep_tree.specs.declared.syntax.FoldOp.{FoldOp}
-use Rattle.ep_tree.specs.declared.values.Mode.{Mode}
+use Rattle.ep_eval.proofs.Words.{◌≡◌, Bool, true, false, List, [], ◌∷◌, ◌++◌, ℤ, pos, refl, sym, ap, subst, ◌∙◌, Option, Some, None, Result, Ok, Err, option_to_list, unwrap_or, list_any, or_left, is_too_far, Place, counts_node, one_node, truths_node, two_node, CountOp, OneOp, Group, Not, Neg, Abs, ToInt, Factorial, Flatten, AllDiff, Fold, TwoOp, Binary, Compare, Lex, InSet, Table, Env, evaluate, folded_value, number_in, truth_in, values_of, numbers_at, products_from, a_node, met, met_all, ExprTree, ExprTrees, ValueTree, FoldOp, Mode, Gives, is_far_value, of_all, GivesAt, folded_numbers, seen_held, IsMadeOf, IsWorth, count_value, one_numbers, one_value, own_number, two_value, EvalError, Limit, Memory, Held, Worth, Seen}
 use Rattle.ep_eval.proofs.Countings.{any_append}
-use Rattle.ep_eval.specs.Counting.{Gives, is_far_value, of_all}
-use Rattle.ep_eval.specs.Folding.{GivesAt, folded_numbers}
-use Rattle.ep_eval.specs.Helds.{seen_held}
-use Rattle.ep_eval.specs.Meters.{IsMadeOf, IsWorth}
-use Rattle.ep_eval.specs.Worths.{count_value, one_numbers, one_value, own_number, two_value}
-use Rattle.ep_eval.specs.declared.errors.EvalError.{EvalError}
-use Rattle.ep_eval.specs.declared.errors.EvalError.TheVariants.{Limit, Memory}
-use Rattle.ep_eval.specs.declared.held.Held.{Held}
-use Rattle.ep_eval.specs.declared.worth.Worth.{Worth}
-use Rattle.ep_eval.specs.declared.worth.Worth.TheVariants.{Seen}
 
 -- ---- what an operator gave
 

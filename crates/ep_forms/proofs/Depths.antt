@@ -1,21 +1,7 @@
 -- Depths of the parts of kinds, and of what is greater.
-use Rattle.std.proofs.Common.{◌≡◌, ℕ, ◌≤◌, ◌<◌, Bool, true, false, List, ◌∷◌, refl, sym, ap, subst, ◌∙◌, arith}
-use Rattle.std.specs.Prelude.{Some, None, Option, if◌then◌else◌, nat_le}
+use Rattle.ep_forms.proofs.Words.{◌≡◌, ℕ, ◌≤◌, ◌<◌, Bool, true, false, List, ◌∷◌, refl, sym, ap, subst, ◌∙◌, arith, Some, None, Option, if◌then◌else◌, nat_le, Box, Name, index_of, sized-Comprehension, sized-Literal, sized-Quant, sized-Read, Domain, size-Domain, Expr, size-Expr, size_is-Expr, Generator, size-Generator, size_is-Generator, Comprehension, Literal, Quant, Read, size-Kind, QuantOp, index_at, end_depth, generators_depth, greater, index_depth, listing_depth, Listing, most}
 use Rattle.std.specs.declared.alloc.Global.{Global}
-use Rattle.std.specs.declared.boxed.Box.{Box}
 use Rattle.std.specs.declared.vec.Vec.{Vec}
-use Rattle.ep_base.specs.declared.names.Name.{Name}
-use Rattle.ep_tree.proofs.ViewLemmas.{index_of}
-use Rattle.ep_tree.specs.declared.syntax.DomainKind.TheViews.{sized-Comprehension, sized-Literal, sized-Quant, sized-Read}
-use Rattle.ep_tree.specs.declared.syntax.Domain.{Domain, size-Domain}
-use Rattle.ep_tree.specs.declared.syntax.Expr.{Expr, size-Expr, size_is-Expr}
-use Rattle.ep_tree.specs.declared.syntax.Generator.{Generator, size-Generator, size_is-Generator}
-use Rattle.ep_tree.specs.declared.syntax.Kind.{Comprehension, Literal, Quant, Read, size-Kind}
-use Rattle.ep_tree.specs.declared.syntax.QuantOp.{QuantOp}
-use Rattle.ep_forms.specs.Forms.{index_at}
-use Rattle.ep_forms.specs.Ranks.{end_depth, generators_depth, greater, index_depth, listing_depth}
-use Rattle.ep_forms.specs.declared.forms.Listing.{Listing}
-use denote.Param.Weighed.{most}
 
 pub index_is : (d : Option (Box Domain Global)) → index_of d ≡ index_at d
 unfolding index_of index_at

@@ -1,13 +1,5 @@
 -- Numbers that are told only as far as a limit needs them.
-use Rattle.std.proofs.Common.{◌≡◌, true, false, ℕ, zero, suc, ◌+◌, ◌*◌, ◌<◌, ◌≤◌, refl, sym, ap, ◌∙◌, inl, inr, arith, List, [], ◌∷◌, length, length-append, drop, get_or}
-use Rattle.std.specs.Prelude.{ℤ, ◌⊎◌, pos, negsuc, ◌+ℤ◌, ◌-ℤ◌, int_lt, nat_abs}
-use Rattle.std.proofs.Math.Nat.{mul-le-mul, mul_assoc, mul_comm}
-use Rattle.std.proofs.lemmas.List.{at_drop_all, at_drop_more}
-use Rattle.ep_base.specs.Runs.{numbers, numbers_in, or_zero}
-use Rattle.ep_base.specs.declared.run_lists.Run.{Run}
-use Rattle.ep_numbers.proofs.Counting.{length_of_run, none_below}
-use Rattle.ep_tree.specs.Solutions.{cell_count}
-use Rattle.ep_size.specs.Totals.{MOST_TOLD, capped}
+use Rattle.ep_size.proofs.Words.{◌≡◌, true, false, ℕ, zero, suc, ◌+◌, ◌*◌, ◌<◌, ◌≤◌, refl, sym, ap, ◌∙◌, inl, inr, arith, List, [], ◌∷◌, length, length-append, drop, get_or, ℤ, ◌⊎◌, pos, negsuc, ◌+ℤ◌, ◌-ℤ◌, int_lt, nat_abs, mul-le-mul, mul_assoc, mul_comm, at_drop_all, at_drop_more, numbers, numbers_in, or_zero, Run, length_of_run, none_below, cell_count, MOST_TOLD, capped}
 
 either : (a : ℕ) → (a ≤ MOST_TOLD) ⊎ (MOST_TOLD < a)
 either a = grind arith

@@ -1,21 +1,6 @@
 -- The cells of decision variables that are counted one after another, from the last one on.
-use Rattle.std.proofs.Common.{◌≡◌, ℕ, ◌+◌, ◌*◌, ◌<◌, ◌≤◌, List, [], ◌∷◌, length, drop, get_or, zero, suc, refl, sym, ap, ◌∙◌, arith}
-use Rattle.std.specs.Prelude.{map}
-use Rattle.std.proofs.lemmas.List.{drop_more}
-use Rattle.std.proofs.lemmas.List.Sums.{sum_by-cons}
-use Rattle.ep_instance_parts.specs.Instances.{find_of}
-use Rattle.ep_instance_parts.specs.declared.instances.Find.{Find}
+use Rattle.ep_size.proofs.Words.{◌≡◌, ℕ, ◌+◌, ◌*◌, ◌<◌, ◌≤◌, List, [], ◌∷◌, length, drop, get_or, zero, suc, refl, sym, ap, ◌∙◌, arith, map, drop_more, sum_by-cons, find_of, Find, Env, has_cells, MOST_SIZE, put, put_all, cell_count, cells_bound, scalar_of, IsTooMany, Celled, all_cells, capped, SizeError, Limit, Memory, CellTotals}
 use Rattle.ep_tree.specs.Binding as defined
-use Rattle.ep_tree.specs.Environments.{Env, has_cells}
-use Rattle.ep_tree.specs.Limits.{MOST_SIZE}
-use Rattle.ep_tree.specs.Names.{put, put_all}
-use Rattle.ep_tree.specs.Solutions.{cell_count, cells_bound}
-use Rattle.ep_tree.specs.Types.{scalar_of}
-use Rattle.ep_size.specs.Causes.{IsTooMany}
-use Rattle.ep_size.specs.Totals.{Celled, all_cells, capped}
-use Rattle.ep_size.specs.declared.errors.SizeError.{SizeError}
-use Rattle.ep_size.specs.declared.errors.SizeError.TheVariants.{Limit, Memory}
-use Rattle.ep_size.specs.declared.cells.CellTotals.{CellTotals}
 
 -- what is known of the cells of some decision variables, and of the names that stand for them
 pub record CellsSoFar (totals : CellTotals) (now start : Env) (finds : List Find) : Type 0 where

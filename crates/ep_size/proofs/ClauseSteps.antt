@@ -1,17 +1,6 @@
 -- Clauses that are measured one after another.
-use Rattle.std.proofs.Common.{◌≡◌, List, [], ◌∷◌, ◌++◌, refl, sym, ap, ◌∙◌}
-use Rattle.std.specs.Prelude.{map}
-use Rattle.std.proofs.lemmas.List.{append-nil}
-use Rattle.ep_tree.specs.Binding.{met_in}
-use Rattle.ep_tree.specs.Environments.{Env}
-use Rattle.ep_tree.specs.Measures.{Met, met}
-use Rattle.ep_tree.specs.Trees.{ExprTree}
-use Rattle.ep_tree.specs.Views.{expr_tree}
-use Rattle.ep_tree.specs.declared.syntax.Expr.{Expr}
-use Rattle.ep_tree.specs.declared.values.Mode.{Mode}
+use Rattle.ep_size.proofs.Words.{◌≡◌, List, [], ◌∷◌, ◌++◌, refl, sym, ap, ◌∙◌, map, append-nil, met_in, Env, Met, met, ExprTree, expr_tree, Expr, Mode, Going, Told, Totals}
 use Rattle.ep_size.proofs.MeterSteps.{going_begins, going_ends, going_more}
-use Rattle.ep_size.specs.Meters.{Going, Told}
-use Rattle.ep_size.specs.declared.totals.Totals.{Totals}
 
 -- what some clauses meet
 abbrev pub met_clauses : Mode → Env → List Expr → List Met

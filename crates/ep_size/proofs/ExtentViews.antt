@@ -1,12 +1,9 @@
 -- What is known of a matrix by its parts, and the scalars of parts.
-use Rattle.std.proofs.Common.{◌≡◌, ℤ, List, [], ◌∷◌, ◌++◌, refl, ap, ◌∙◌}
+use Rattle.ep_size.proofs.Words.{◌≡◌, ℤ, List, [], ◌∷◌, ◌++◌, refl, ap, ◌∙◌, matrix, scalars_of, scalars_of_all, single, value_and, grid_of, grids_from, row_grids, Matrix, Row_of-Extent, end_of-Extent, more_of-Extent, items-the_row-Extent, items_hidden-the_row-Extent-0, hidden-the_row-Extent-0}
 use Rattle.std.specs.declared.alloc.Global.{Global}
 use Rattle.std.specs.declared.vec.Vec.{Vec}
 use Rattle.ep_tree.specs.Reach as defined
-use Rattle.ep_tree.specs.Values.{matrix, scalars_of, scalars_of_all, single, value_and}
-use Rattle.ep_size.specs.Extents.{grid_of, grids_from, row_grids}
-use Rattle.ep_size.specs.declared.extents.Extent.{Extent, Matrix, Row_of-Extent, end_of-Extent, more_of-Extent, items-the_row-Extent, items_hidden-the_row-Extent-0}
-use Rattle.ep_size.specs.declared.extents.Extent.TheBlock.{hidden-the_row-Extent-0}
+use Rattle.ep_size.specs.declared.extents.Extent.{Extent}
 
 row_grids-items : {n : _} (row : Row_of-Extent n) → row_grids row ≡ grids_from (items-the_row-Extent _ row)
 unfolding grid_of grids_from

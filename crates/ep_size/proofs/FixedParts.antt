@@ -1,24 +1,8 @@
 -- Parts without decision variables: what evaluating them shows of their measures.
-use Rattle.std.proofs.Common.{◌≡◌, ℕ, ◌+◌, Bool, true, false, List, [], ◌∷◌, ◌++◌, length, refl, sym, ap, subst, ◌∙◌, arith}
-use Rattle.std.specs.Prelude.{map, not, ◌&&◌, if◌then◌else◌, nat_lt}
-use Rattle.std.specs.List.{list_all}
-use Rattle.std.proofs.lemmas.List.Sums.{sum_by-cons}
+use Rattle.ep_size.proofs.Words.{◌≡◌, ℕ, ◌+◌, Bool, true, false, List, [], ◌∷◌, ◌++◌, length, refl, sym, ap, subst, ◌∙◌, arith, map, not, ◌&&◌, if◌then◌else◌, nat_lt, list_all, sum_by-cons, told_as, told_far, has_far, Meter, LimitsOfFixed, is_fixed, over_limit, MOST_SIZE, limits_of_values, Met, a_generator, a_node, decided_weight, weight_at, weight_of, decisions_in, holds_decision, limits_passed, Mode, Told, is_far, capped, Totals}
 use Rattle.ep_base.specs.declared.operators.Limit.{Limit as LimitName}
-use Rattle.ep_eval.proofs.MeterSteps.{told_as, told_far}
 use Rattle.ep_eval.specs.Meters as evaluated
-use Rattle.ep_eval.specs.Meters.{has_far}
-use Rattle.ep_eval.specs.declared.meter.Meter.{Meter}
-use Rattle.ep_tree_laws.specs.FixedLimits.{LimitsOfFixed, is_fixed}
-use Rattle.ep_tree.specs.Binding.{over_limit}
-use Rattle.ep_tree.specs.Limits.{MOST_SIZE, limits_of_values}
-use Rattle.ep_tree.specs.Measures.{Met, a_generator, a_node, decided_weight, weight_at, weight_of}
-use Rattle.ep_tree.specs.Reach.{decisions_in, holds_decision}
-use Rattle.ep_tree.specs.Solutions.{limits_passed}
-use Rattle.ep_tree.specs.declared.values.Mode.{Mode}
 use Rattle.ep_size.proofs.FreeParts.{AreFixed, and_one, and_other}
-use Rattle.ep_size.specs.Meters.{Told, is_far}
-use Rattle.ep_size.specs.Totals.{capped}
-use Rattle.ep_size.specs.declared.totals.Totals.{Totals}
 
 -- the totals with another meter
 abbrev pub metering : Totals → Meter → Totals

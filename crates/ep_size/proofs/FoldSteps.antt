@@ -1,35 +1,9 @@
 -- Folded numbers, with one more at the end.
-use Rattle.std.proofs.Common.{◌≡◌, ℕ, ◌+◌, ◌*◌, ◌<◌, ◌^◌, Bool, true, false, List, [], ◌∷◌, ◌++◌, length, refl, sym, ap, subst, ◌∙◌, arith, Ok, Err}
-use Rattle.std.specs.Prelude.{ℤ, fold, map, pos, Result, ◌||◌, ◌*ℤ◌, int_lt, cond}
-use Rattle.std.specs.Int.{int_max, int_min}
-use Rattle.std.specs.List.{list_any}
-use Rattle.std.proofs.lemmas.Int.{clamps, ints}
-use Rattle.std.proofs.lemmas.List.{length_push}
-use Rattle.std.proofs.Math.Bool.{or_assoc}
-use Rattle.std.proofs.lemmas.Bool.{or_from, or_left, or_right}
-use Rattle.ep_base.specs.Intervals.{Interval, farthest_end, from_to, greatest_interval, greatest_or_zero, highs, least_interval, least_or_zero, lows, only, product_interval, products_interval, spanned, width}
-use Rattle.ep_base.specs.Numbers.{absolute_of, greatest_of, least_of}
-use Rattle.ep_base.specs.Reads.{MOST_NUMBER, is_too_far}
-use Rattle.ep_tree.specs.Measures.{farthest_of, first_products, fold_weight, folded_weight, folding_weight, sum_weight}
+use Rattle.ep_size.proofs.Words.{◌≡◌, ℕ, ◌+◌, ◌*◌, ◌<◌, ◌^◌, Bool, true, false, List, [], ◌∷◌, ◌++◌, length, refl, sym, ap, subst, ◌∙◌, arith, Ok, Err, ℤ, fold, map, pos, Result, ◌||◌, ◌*ℤ◌, int_lt, cond, int_max, int_min, list_any, clamps, ints, length_push, or_assoc, or_from, or_left, or_right, Interval, farthest_end, from_to, greatest_interval, greatest_or_zero, highs, least_interval, least_or_zero, lows, only, product_interval, products_interval, spanned, width, absolute_of, greatest_of, least_of, MOST_NUMBER, is_too_far, farthest_of, first_products, fold_weight, folded_weight, folding_weight, sum_weight, folded_span, reaches, sum_span, truth_span, wide_span, FoldOp, plain_span, Gives, Chooses, Folds, GivesFold, Multiplies, RefusesFold, fold_reaches, greater, is_far_fold, is_far_reach, lesser, interval_of, Keeps, Sums, capped, SizeError, Limit, Memory, Chosen, Sum, Product, Truth, Least, Greatest, Multiplied, Summed}
 use Rattle.ep_tree.specs.Reach as defined
-use Rattle.ep_tree.specs.Reach.{folded_span, reaches, sum_span, truth_span, wide_span}
-use Rattle.ep_tree.specs.declared.syntax.FoldOp.{FoldOp}
 use Rattle.ep_size.proofs.Caps.{product_kept}
 use Rattle.ep_size.proofs.Measurings.{is_past, or_false, past_of}
-use Rattle.ep_size.specs.Extents.{plain_span}
-use Rattle.ep_size.specs.Finishing.{Gives}
-use Rattle.ep_size.specs.Folds.{Chooses, Folds, GivesFold, Multiplies, RefusesFold, fold_reaches, greater, is_far_fold, is_far_reach, lesser}
-use Rattle.ep_numbers.specs.Spans.{interval_of}
-use Rattle.ep_size.specs.Spans.{Keeps}
-use Rattle.ep_size.specs.Sums.{Sums}
-use Rattle.ep_size.specs.Totals.{capped}
-use Rattle.ep_size.specs.declared.errors.SizeError.{SizeError}
-use Rattle.ep_size.specs.declared.errors.SizeError.TheVariants.{Limit, Memory}
 use Rattle.ep_size.specs.declared.extents.Span.{Span}
-use Rattle.ep_size.specs.declared.folds.Chosen.{Chosen}
-use Rattle.ep_size.specs.declared.folds.Folding.TheVariants.{Sum, Product, Truth, Least, Greatest}
-use Rattle.ep_size.specs.declared.folds.Multiplied.{Multiplied}
-use Rattle.ep_size.specs.declared.sums.Summed.{Summed}
 
 -- ---- a fold from the first number on
 

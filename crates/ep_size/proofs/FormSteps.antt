@@ -1,23 +1,6 @@
 -- Forms by what is known of their parts: what each is, and what it weighs.
-use Rattle.std.proofs.Common.{◌≡◌, ℕ, suc, ◌+◌, length, Bool, true, false, List, [], ◌∷◌, ◌∙◌, refl, sym, ap, subst, arith}
-use Rattle.std.specs.Prelude.{if◌then◌else◌}
-use Rattle.ep_base.specs.Intervals.{absolute_interval, width}
-use Rattle.std.proofs.lemmas.List.Sums.{sum_by-cons}
-use Rattle.ep_base.specs.declared.operators.CompareOp.{CompareOp}
-use Rattle.ep_base.specs.declared.places.Place.{Place}
-use Rattle.ep_tree.proofs.ReachEquations.{extent-absolute, extent-all_of, extent-any_of, extent-binary, extent-compare, extent-in_domain, extent-minus, extent-negation, extent-to_int}
-use Rattle.ep_forms.specs.Forms.{truths_node}
-use Rattle.ep_tree.specs.Environments.{Env}
-use Rattle.ep_tree.specs.Evaluation.{evaluate, number_in, type_in}
-use Rattle.ep_tree.specs.Measures.{a_node, binary_weight, decided_weight, number_reach, reaches_at, weight_at, widths}
-use Rattle.ep_tree.specs.Reach.{Extent, Span, binary_span, decisions_in, extent, extents_of, fixed_extent, holds_decision, measured, negated_span, span_of, truth_span, wide_span}
-use Rattle.ep_tree.specs.Trees.{DomainTree, ExprTree, absolute, all_of, any_of, binary, compare, in_domain, minus, negation, to_int}
-use Rattle.ep_tree.specs.Values.{single}
-use Rattle.ep_tree.specs.Views.{expr_trees}
-use Rattle.ep_tree.specs.declared.syntax.BinaryOp.{BinaryOp}
-use Rattle.ep_tree.specs.declared.syntax.Expr.{Expr}
-use Rattle.ep_tree.specs.declared.values.Mode.{Mode}
-use Rattle.ep_size.specs.Finishing.{IsNumberNode}
+use Rattle.ep_size.proofs.Words.{◌≡◌, ℕ, suc, ◌+◌, length, Bool, true, false, List, [], ◌∷◌, ◌∙◌, refl, sym, ap, subst, arith, if◌then◌else◌, absolute_interval, width, sum_by-cons, CompareOp, Place, extent-absolute, extent-all_of, extent-any_of, extent-binary, extent-compare, extent-in_domain, extent-minus, extent-negation, extent-to_int, truths_node, Env, evaluate, number_in, type_in, a_node, binary_weight, decided_weight, number_reach, reaches_at, weight_at, widths, binary_span, decisions_in, extent, extents_of, fixed_extent, holds_decision, measured, negated_span, span_of, truth_span, wide_span, DomainTree, ExprTree, absolute, all_of, any_of, binary, compare, in_domain, minus, negation, to_int, single, expr_trees, BinaryOp, Expr, Mode, IsNumberNode}
+use Rattle.ep_tree.specs.Reach.{Extent, Span}
 
 -- what is known of a node that holds one
 pub measured_decided : (mode : Mode) (env : Env) (e : ExprTree) (x : Extent) → holds_decision (decisions_in env) e ≡ true → measured mode env e x ≡ x

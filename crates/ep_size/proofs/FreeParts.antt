@@ -1,21 +1,5 @@
 -- What an expression in which no decision variable stands anywhere meets: nodes without decision variables.
-use Rattle.std.specs.Prelude.{◌≡◌, Bool, true, false, not, ◌&&◌, ◌||◌, List, [], ◌∷◌, ◌++◌, map, ℤ, if◌then◌else◌, cond, Some, None, bytes_eq, filter, flat_map, Option, unwrap_or, option_map, refl}
-use Rattle.std.proofs.Common.{ap, ◌∙◌}
-use Rattle.std.proofs.lemmas.Bool.{or_from}
-use Rattle.std.specs.List.{list_all, list_any}
-use Rattle.ep_base.specs.declared.names.Name.{Name}
-use Rattle.ep_base.specs.declared.places.Place.{Place}
-use Rattle.ep_tree_laws.specs.FixedLimits.{is_fixed}
-use Rattle.ep_tree.specs.Environments.{Env, has_value, scalar_in, with_number}
-use Rattle.ep_tree.specs.Evaluation.{all_joined, chosen, domain_values, holding, numbered, over_names, reached, standing_for}
-use Rattle.ep_tree.specs.Measures.{Met, a_generator, a_node, met, met_all, met_domain, met_domains, met_end, met_generators, met_index, met_indices, met_names, met_ranges, met_terms}
-use Rattle.ep_tree.specs.Reach.{decisions_in, generator_names, hiding, holds_decision, index_holds_decision, is_decision, one_holds_decision, term_holds_decision}
-use Rattle.ep_tree.specs.Trees.{DomainTree, Domains, End, ExprTree, ExprTrees, Generators, IndexDomain, Indices, Ranges, Terms, absolute, all_different, all_of, any_of, at_least, at_most, binary, bool, chain, compare, comprehension, domain_and, end_at, every_and, factorial, flatten, folded, gcc, generator_and, group, group_domain, in_domain, in_set, index_and, int, lex, literal, matrix_domain, minus, named, named_domain, negation, no_domains, no_end, no_generators, no_indices, no_ranges, no_terms, no_trees, number, one_and, over, quantified, ranges, read, set_domain, span_and, table, term_and, to_int, tree_and, truth, unstated}
-use Rattle.ep_tree.specs.Types.{of_scalar}
-use Rattle.ep_tree.specs.Values.{single}
-use Rattle.ep_tree.specs.declared.syntax.QuantOp.{QuantOp}
-use Rattle.ep_tree.specs.declared.values.Mode.{Mode}
-use Rattle.ep_size.specs.Free.{are_free, are_free_domains, are_free_generators, are_free_indices, are_free_ranges, are_free_terms, is_free, is_free_domain, is_free_end, is_free_index}
+use Rattle.ep_size.proofs.Words.{◌≡◌, Bool, true, false, not, ◌&&◌, ◌||◌, List, [], ◌∷◌, ◌++◌, map, ℤ, if◌then◌else◌, cond, Some, None, bytes_eq, filter, flat_map, Option, unwrap_or, option_map, refl, ap, ◌∙◌, or_from, list_all, list_any, Name, Place, is_fixed, Env, has_value, scalar_in, with_number, all_joined, chosen, domain_values, holding, numbered, over_names, reached, standing_for, Met, a_generator, a_node, met, met_all, met_domain, met_domains, met_end, met_generators, met_index, met_indices, met_names, met_ranges, met_terms, decisions_in, generator_names, hiding, holds_decision, index_holds_decision, is_decision, one_holds_decision, term_holds_decision, DomainTree, Domains, End, ExprTree, ExprTrees, Generators, IndexDomain, Indices, Ranges, Terms, absolute, all_different, all_of, any_of, at_least, at_most, binary, bool, chain, compare, comprehension, domain_and, end_at, every_and, factorial, flatten, folded, gcc, generator_and, group, group_domain, in_domain, in_set, index_and, int, lex, literal, matrix_domain, minus, named, named_domain, negation, no_domains, no_end, no_generators, no_indices, no_ranges, no_terms, no_trees, number, one_and, over, quantified, ranges, read, set_domain, span_and, table, term_and, to_int, tree_and, truth, unstated, of_scalar, single, QuantOp, Mode, are_free, are_free_domains, are_free_generators, are_free_indices, are_free_ranges, are_free_terms, is_free, is_free_domain, is_free_end, is_free_index}
 
 -- one test of names says no more than another
 abbrev pub Below : (Name → Bool) → (Name → Bool) → Type 0

@@ -1,38 +1,12 @@
 -- Comprehensions that hold a decision variable: the walk through their generators, and their parts.
-use Rattle.std.proofs.Common.{◌≡◌, ℕ, ◌+◌, ◌<◌, ◌≤◌, Bool, true, false, ℤ, List, [], ◌∷◌, ◌++◌, length, refl, sym, ap, subst, ◌∙◌, append_assoc, append-nil, arith}
-use Rattle.std.specs.Prelude.{◌&&◌, Option, Result, Some, None, filter, flat_map, if◌then◌else◌, map, option_map, unwrap_or, is_some}
-use Rattle.std.proofs.lemmas.List.{map-append}
-use Rattle.std.proofs.lemmas.List.Elements.{filter-append}
-use Rattle.ep_base.specs.Numbers.{all_one, is_one}
-use Rattle.ep_base.specs.declared.names.Name.{Name}
-use Rattle.ep_base.specs.declared.places.Place.{Place}
+use Rattle.ep_size.proofs.Words.{◌≡◌, ℕ, ◌+◌, ◌<◌, ◌≤◌, Bool, true, false, ℤ, List, [], ◌∷◌, ◌++◌, length, refl, sym, ap, subst, ◌∙◌, append_assoc, append-nil, arith, ◌&&◌, Option, Result, Some, None, filter, flat_map, if◌then◌else◌, map, option_map, unwrap_or, is_some, map-append, filter-append, all_one, is_one, Name, Place, extent-comprehension, Env, scalar_in, with_number, all_joined, all_true, chosen, domain_values, evaluate, holding, index_values, number_in, numbered, over_names, reached, standing_for, truth_of, values_of, Met, a_generator, decided_weight, met, met_all, met_domain, met_index, number_reach, reaches_at, decisions_in, extent, holds_decision, matrix_extent, measured_indices, DomainTree, ExprTree, ExprTrees, Generators, IndexDomain, comprehension, generator_and, no_generators, ValueTree, all_defined, as_parts, matrix, expr_tree, expr_trees, Expr, Mode, listed_nodes, nodes_where, part_nodes, in_order, met_in_order, nodes_name, ordered_nodes, Counts, Meter, IsKnownExtent, grid_of, listed_extents, part_extents, IsMatrixNode, ListsExtent, Going, SettlesMade, Told, SizeError, Totals}
 use Rattle.ep_size.proofs.LookSteps.{and_again}
-use Rattle.ep_tree.proofs.ReachEquations.{extent-comprehension}
-use Rattle.ep_tree.specs.Environments.{Env, scalar_in, with_number}
-use Rattle.ep_tree.specs.Evaluation.{all_joined, all_true, chosen, domain_values, evaluate, holding, index_values, number_in, numbered, over_names, reached, standing_for, truth_of, values_of}
-use Rattle.ep_tree.specs.Measures.{Met, a_generator, decided_weight, met, met_all, met_domain, met_index, number_reach, reaches_at}
 use Rattle.ep_tree.specs.Reach as defined
-use Rattle.ep_tree.specs.Reach.{decisions_in, extent, holds_decision, matrix_extent, measured_indices}
-use Rattle.ep_tree.specs.Trees.{DomainTree, ExprTree, ExprTrees, Generators, IndexDomain, comprehension, generator_and, no_generators}
-use Rattle.ep_tree.specs.Values.{ValueTree, all_defined, as_parts, matrix}
-use Rattle.ep_tree.specs.Views.{expr_tree, expr_trees}
-use Rattle.ep_tree.specs.declared.syntax.Expr.{Expr}
-use Rattle.ep_tree.specs.declared.values.Mode.{Mode}
-use Rattle.ep_eval.specs.Generating.{listed_nodes, nodes_where, part_nodes}
-use Rattle.ep_eval.proofs.GeneratingSteps.{in_order, met_in_order, nodes_name, ordered_nodes}
-use Rattle.ep_eval.specs.Meters.{Counts}
-use Rattle.ep_eval.specs.declared.meter.Meter.{Meter}
 use Rattle.ep_size.proofs.FormSteps.{measured_decided, own_weight}
 use Rattle.ep_size.proofs.IndexParts.{literal_grid, met_first, none_met}
 use Rattle.ep_size.proofs.ListNodes.{lists_finish}
 use Rattle.ep_size.proofs.MeterSteps.{going_begins, going_ends, going_more, name_counted, node_stops, node_told, told_as, told_same, told_stops, told_then}
-use Rattle.ep_size.specs.Extents.{IsKnownExtent, grid_of}
-use Rattle.ep_size.specs.Generated.{listed_extents, part_extents}
-use Rattle.ep_size.specs.Lists.{IsMatrixNode, ListsExtent}
-use Rattle.ep_size.specs.Meters.{Going, SettlesMade, Told}
-use Rattle.ep_size.specs.declared.errors.SizeError.{SizeError}
 use Rattle.ep_size.specs.declared.extents.Extent.{Extent}
-use Rattle.ep_size.specs.declared.totals.Totals.{Totals}
 
 -- ---- conditions
 

@@ -1,24 +1,12 @@
 -- What is known of an expression in brackets.
-use Rattle.std.proofs.Common.{◌≡◌, ℕ, Bool, true, false, List, ◌∷◌, ℤ, refl, sym, ap, ◌∙◌, arith}
-use Rattle.ep_base.specs.declared.places.Place.{Place}
-use Rattle.ep_tree.proofs.ReachEquations.{extent-group, holds_decision-group}
-use Rattle.ep_tree.specs.Environments.{Env}
-use Rattle.ep_tree.specs.Evaluation.{type_in}
-use Rattle.ep_tree.specs.Measures.{a_node, decided_weight, number_reach, reaches_at, weight_at}
+use Rattle.ep_size.proofs.Words.{◌≡◌, ℕ, Bool, true, false, List, ◌∷◌, ℤ, refl, sym, ap, ◌∙◌, arith, Place, extent-group, holds_decision-group, Env, type_in, a_node, decided_weight, number_reach, reaches_at, weight_at, decisions_in, extent, group_extent, holds_decision, truth_span, ExprTree, group, filled, single, Mode, ValueType, IsKnownExtent, TellsValue, grid_of, plain_span, Finished, IsLightNode, IsNumberNode, Matrix, Matrix'}
 use Rattle.ep_tree.specs.Reach as defined
-use Rattle.ep_tree.specs.Reach.{decisions_in, extent, group_extent, holds_decision, truth_span}
-use Rattle.ep_tree.specs.Trees.{ExprTree, group}
-use Rattle.ep_tree.specs.Values.{filled, single}
-use Rattle.ep_tree.specs.declared.values.Mode.{Mode}
-use Rattle.ep_tree.specs.declared.values.ValueType.{ValueType}
 use Rattle.std.specs.declared.alloc.Global.{Global}
 use Rattle.std.specs.declared.vec.Vec.{Vec}
 use Rattle.ep_size.proofs.ExtentViews.{grid_of-matrix}
 use Rattle.ep_size.proofs.FormSteps.{measured_decided, own_weight}
 use Rattle.ep_size.proofs.Measurings.{near_nothing}
-use Rattle.ep_size.specs.Extents.{IsKnownExtent, TellsValue, grid_of, plain_span}
-use Rattle.ep_size.specs.Finishing.{Finished, IsLightNode, IsNumberNode}
-use Rattle.ep_size.specs.declared.extents.Extent.{Extent, Cells, Fixed, Matrix, Matrix', NoParts, Nothing, Number}
+use Rattle.ep_size.specs.declared.extents.Extent.{Extent, Cells, Fixed, NoParts, Nothing, Number}
 use Rattle.ep_size.specs.declared.extents.Span.{Span}
 
 -- ---- a node that weighs nothing

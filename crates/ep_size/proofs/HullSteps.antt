@@ -1,25 +1,8 @@
 -- The hull of some numbers with one number more, and what a read weighs.
-use Rattle.std.proofs.Common.{◌≡◌, ◌≢◌, ◌+◌, ◌*◌, Bool, true, false, List, [], ◌∷◌, ◌++◌, length, refl, sym, ap, ◌∙◌, arith, Ok}
-use Rattle.std.specs.Prelude.{ℕ, ℤ, fold, replicate, sum_by, pos, zero, suc}
-use Rattle.std.specs.Int.{int_max, int_min}
-use Rattle.std.specs.List.{list_any}
-use Rattle.std.proofs.lemmas.List.{length-replicate, length_push}
-use Rattle.ep_base.specs.Intervals.{Interval, farthest_end, from_to, greatest_or_zero, highs, hull, least_or_zero, lows, width}
-use Rattle.ep_base.specs.Numbers.{absolute_of, greatest_of, least_of}
-use Rattle.ep_base.specs.Reads.{is_too_far}
-use Rattle.ep_tree.specs.Measures.{index_width, read_weight}
+use Rattle.ep_size.proofs.Words.{◌≡◌, ◌≢◌, ◌+◌, ◌*◌, Bool, true, false, List, [], ◌∷◌, ◌++◌, length, refl, sym, ap, ◌∙◌, arith, Ok, ℕ, ℤ, fold, replicate, sum_by, pos, zero, suc, int_max, int_min, list_any, length-replicate, length_push, Interval, farthest_end, from_to, greatest_or_zero, highs, hull, least_or_zero, lows, width, absolute_of, greatest_of, least_of, is_too_far, index_width, read_weight, MeasuredIndex, is_decided_index, read_span, reaches, truth_span, wide_span, Scalar, plain_span, Gives, Hulls, interval_of, Keeps, capped, Hulled}
 use Rattle.ep_tree.specs.Reach as defined
-use Rattle.ep_tree.specs.Reach.{MeasuredIndex, is_decided_index, read_span, reaches, truth_span, wide_span}
-use Rattle.ep_tree.specs.declared.values.Scalar.{Scalar}
-use Rattle.ep_size.specs.Extents.{plain_span}
-use Rattle.ep_size.specs.Finishing.{Gives}
-use Rattle.ep_size.specs.Hulls.{Hulls}
-use Rattle.ep_numbers.specs.Spans.{interval_of}
-use Rattle.ep_size.specs.Spans.{Keeps}
-use Rattle.ep_size.specs.Totals.{capped}
 use Rattle.ep_size.specs.declared.extents.Span.{Span}
 use Rattle.ep_numbers.specs.declared.spans.Span.{Span as Ends}
-use Rattle.ep_size.specs.declared.hulls.Hulled.{Hulled}
 
 -- the least lower end of numbers, one of them at the end
 pub least_last : (a : ℤ) (spans : List defined.Span) (s : defined.Span)

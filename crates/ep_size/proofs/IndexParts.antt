@@ -1,27 +1,9 @@
 -- The parts of a list, and the indices that they get.
-use Rattle.std.proofs.Common.{◌≡◌, ℕ, ◌+◌, ◌<◌, ◌≤◌, ℤ, Bool, true, false, List, [], ◌∷◌, ◌++◌, length, take, get_or, pos, refl, sym, ap, subst, ◌∙◌, Some, None, Option}
-use Rattle.std.specs.Prelude.{map, if◌then◌else◌, ◌==◌}
-use Rattle.std.proofs.lemmas.List.{append-nil, append_assoc, length-map, map-append}
-use Rattle.ep_base.specs.Runs.{counting}
-use Rattle.ep_base.specs.declared.places.Place.{Place}
-use Rattle.ep_tree.proofs.ReachEquations.{extent-literal}
-use Rattle.ep_tree.specs.Environments.{Env}
-use Rattle.ep_tree.specs.Evaluation.{index_values}
-use Rattle.ep_tree.specs.Measures.{decided_weight, met, met_all, number_reach, reaches_at}
+use Rattle.ep_size.proofs.Words.{◌≡◌, ℕ, ◌+◌, ◌<◌, ◌≤◌, ℤ, Bool, true, false, List, [], ◌∷◌, ◌++◌, length, take, get_or, pos, refl, sym, ap, subst, ◌∙◌, Some, None, Option, map, if◌then◌else◌, ◌==◌, append-nil, append_assoc, length-map, map-append, counting, Place, extent-literal, Env, index_values, decided_weight, met, met_all, number_reach, reaches_at, decisions_in, extent, extents_of, holds_decision, matrix_extent, measured_indices, ExprTree, IndexDomain, literal, as_parts, matrix, expr_tree, expr_trees, Expr, Mode, IsKnownExtent, grid_of, IsMatrixNode, Going, Told, Totals}
 use Rattle.ep_tree.specs.Reach as defined
-use Rattle.ep_tree.specs.Reach.{decisions_in, extent, extents_of, holds_decision, matrix_extent, measured_indices}
-use Rattle.ep_tree.specs.Trees.{ExprTree, IndexDomain, literal}
-use Rattle.ep_tree.specs.Values.{as_parts, matrix}
-use Rattle.ep_tree.specs.Views.{expr_tree, expr_trees}
-use Rattle.ep_tree.specs.declared.syntax.Expr.{Expr}
-use Rattle.ep_tree.specs.declared.values.Mode.{Mode}
 use Rattle.ep_size.proofs.FormSteps.{measured_decided, own_weight}
 use Rattle.ep_size.proofs.MeterSteps.{going_begins, going_ends, going_more}
-use Rattle.ep_size.specs.Extents.{IsKnownExtent, grid_of}
-use Rattle.ep_size.specs.Lists.{IsMatrixNode}
-use Rattle.ep_size.specs.Meters.{Going, Told}
 use Rattle.ep_size.specs.declared.extents.Extent.{Extent}
-use Rattle.ep_size.specs.declared.totals.Totals.{Totals}
 
 -- ---- what is known of some expressions
 

@@ -1,18 +1,10 @@
 -- What indices leave of parts that are known one by one.
-use Rattle.std.proofs.Common.{◌≡◌, ℤ, Bool, Bor, List, [], ◌∷◌, ◌++◌, map, refl, sym, ap, append-nil, ◌∙◌, Some, None, true}
-use Rattle.std.specs.Prelude.{Option, flat_map, if◌then◌else◌, option_map, option_to_list}
-use Rattle.std.proofs.lemmas.Grind.{flat_map-append}
-use Rattle.ep_base.specs.Numbers.{compare_holds}
-use Rattle.ep_base.specs.declared.operators.CompareOp.{CompareOp}
-use Rattle.ep_tree.specs.Reach.{MeasuredIndex, Span, decided_index, fixed_index, left_by, parts_left, whole_index}
-use Rattle.ep_tree.specs.Values.{listed_values, matrix, part_at, scalars_of}
-use Rattle.ep_size.specs.Extents.{grid_of, grids_from}
+use Rattle.ep_size.proofs.Words.{◌≡◌, ℤ, Bool, Bor, List, [], ◌∷◌, ◌++◌, map, refl, sym, ap, append-nil, ◌∙◌, Some, None, true, Option, flat_map, if◌then◌else◌, option_map, option_to_list, flat_map-append, compare_holds, CompareOp, MeasuredIndex, decided_index, fixed_index, left_by, parts_left, whole_index, listed_values, matrix, part_at, scalars_of, grid_of, grids_from, keeps_all, measured_of, Indexed}
+use Rattle.ep_tree.specs.Reach.{Span}
 use Rattle.ep_size.proofs.ReadSteps.{none_left}
-use Rattle.ep_size.specs.Indices.{keeps_all, measured_of}
 use Rattle.ep_size.specs.declared.extents.Extent.{Extent}
 use Rattle.ep_size.specs.declared.extents.Extent.TheVariants.{NoParts, Nothing, Number}
 use Rattle.ep_size.specs.declared.extents.Span.{Span as OneSpan}
-use Rattle.ep_size.specs.declared.reading.Indexed.{Indexed}
 
 -- the scalars that indices leave of some parts
 abbrev pub left_known : List MeasuredIndex → List Extent → List Span

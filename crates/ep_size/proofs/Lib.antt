@@ -33,3 +33,4 @@ pub mod SumSteps
 pub mod TermSteps
 pub mod Wholes
 pub mod WidthSteps
+mod Words

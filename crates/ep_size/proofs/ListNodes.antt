@@ -1,28 +1,12 @@
 -- Nodes that hold a decision variable and are matrices.
-use Rattle.std.proofs.Common.{◌≡◌, ℕ, ◌+◌, ◌<◌, ◌≤◌, ℤ, true, List, [], ◌∷◌, ◌++◌, length, take, get_or, refl, sym, ap, subst, ◌∙◌, arith, Ok, Err}
-use Rattle.std.proofs.lemmas.List.{length-map, map-append, take_all, take_more}
-use Rattle.std.specs.Prelude.{IfOk, map, Result, pos}
+use Rattle.ep_size.proofs.Words.{◌≡◌, ℕ, ◌+◌, ◌<◌, ◌≤◌, ℤ, true, List, [], ◌∷◌, ◌++◌, length, take, get_or, refl, sym, ap, subst, ◌∙◌, arith, Ok, Err, length-map, map-append, take_all, take_more, IfOk, map, Result, pos, counting, Place, extent-flatten, Env, a_node, decided_weight, number_reach, reaches_at, decisions_in, extent, holds_decision, ExprTree, flatten, as_parts, list_value, matrix, scalars_of, single, value_and, Mode, IsKnownExtent, TellsValue, grid_of, grids_from, plain_span, Finished, Finishes, TellsExtent, IsMatrixNode, ListsExtent, SizeError, Memory, Matrix}
 use Rattle.std.specs.declared.alloc.Global.{Global}
 use Rattle.std.specs.declared.vec.Vec.{Vec}
-use Rattle.ep_base.specs.Runs.{counting}
-use Rattle.ep_base.specs.declared.places.Place.{Place}
-use Rattle.ep_tree.proofs.ReachEquations.{extent-flatten}
-use Rattle.ep_tree.specs.Environments.{Env}
-use Rattle.ep_tree.specs.Measures.{a_node, decided_weight, number_reach, reaches_at}
 use Rattle.ep_tree.specs.Reach as defined
-use Rattle.ep_tree.specs.Reach.{decisions_in, extent, holds_decision}
-use Rattle.ep_tree.specs.Trees.{ExprTree, flatten}
-use Rattle.ep_tree.specs.Values.{as_parts, list_value, matrix, scalars_of, single, value_and}
-use Rattle.ep_tree.specs.declared.values.Mode.{Mode}
 use Rattle.ep_size.proofs.ExtentViews.{grid_of-matrix}
 use Rattle.ep_size.proofs.FormSteps.{measured_decided, own_weight}
 use Rattle.ep_size.proofs.Measurings.{near_nothing}
-use Rattle.ep_size.specs.Extents.{IsKnownExtent, TellsValue, grid_of, grids_from, plain_span}
-use Rattle.ep_size.specs.Finishing.{Finished, Finishes}
-use Rattle.ep_size.specs.Lists.{TellsExtent, IsMatrixNode, ListsExtent}
-use Rattle.ep_size.specs.declared.errors.SizeError.{SizeError}
-use Rattle.ep_size.specs.declared.errors.SizeError.TheVariants.{Memory}
-use Rattle.ep_size.specs.declared.extents.Extent.{Extent, Matrix, Number}
+use Rattle.ep_size.specs.declared.extents.Extent.{Extent, Number}
 use Rattle.ep_size.specs.declared.extents.Span.{Span}
 
 -- parts as a list

@@ -1,6 +1,5 @@
 -- Lists that grow at their end.
-use Rattle.std.proofs.Common.{◌≡◌, ℕ, ◌+◌, ◌<◌, ◌≤◌, List, [], ◌∷◌, ◌++◌, length, take, drop, get_or, ap, sym, ◌∙◌, arith, map}
-use Rattle.std.proofs.lemmas.List.{drop_more, length-map, length-take, map-append, take-append-drop, take_all, take_more}
+use Rattle.ep_size.proofs.Words.{◌≡◌, ℕ, ◌+◌, ◌<◌, ◌≤◌, List, [], ◌∷◌, ◌++◌, length, take, drop, get_or, ap, sym, ◌∙◌, arith, map, drop_more, length-map, length-take, map-append, take-append-drop, take_all, take_more}
 
 -- one turn of a loop that feeds one element after another
 pub fed : {A B : Type 0} (f : A → B) (xs : List A) (k : ℕ) (d : A) → k < length xs

@@ -1,23 +1,5 @@
 -- Where decision variables stand in some parts, one after another.
-use Rattle.std.proofs.Common.{◌≡◌, ℕ, ◌+◌, ◌<◌, ◌≤◌, Bool, true, false, ◌&&◌, ◌||◌, List, [], ◌∷◌, length, drop, get_or, refl, sym, ap, ◌∙◌, Option, Some, None}
-use Rattle.std.specs.Prelude.{ℤ, ◌++◌, is_some}
-use Rattle.std.specs.List.{list_any}
-use Rattle.std.proofs.lemmas.List.{at_drop_all, at_drop_more}
-use Rattle.std.proofs.Math.Bool.{or_assoc, or-false, and-true}
-use Rattle.ep_base.specs.declared.names.Name.{Name}
-use Rattle.ep_tree.specs.Reach.{generator_names, is_decision, index_holds_decision, one_holds_decision, term_holds_decision}
-use Rattle.ep_tree.specs.Views.{domain_tree, domains_of, expr_tree, expr_trees, generators_of, indices_of, ranges_of, terms_of, with_range}
-use Rattle.ep_tree.specs.declared.syntax.Domain.{Domain}
-use Rattle.ep_tree.specs.declared.syntax.Range.{Range, One', Span'}
-use Rattle.ep_tree.specs.Environments.{Bound, has_cells, has_domain, has_value}
-use Rattle.ep_tree.specs.declared.syntax.Expr.{Expr}
-use Rattle.ep_tree.specs.declared.syntax.Generator.{Generator}
-use Rattle.ep_tree.specs.declared.values.Scalar.{Scalar}
-use Rattle.ep_eval.specs.Bounds.{only_cells}
-use Rattle.ep_eval.specs.Ranges.{alone}
-use Rattle.ep_size.specs.Free.{are_free, are_free_domains, are_free_generators, are_free_indices, are_free_ranges, are_free_terms, is_free_domain}
-use Rattle.ep_size.specs.Standings.{both, standing_of, standing_of_all, standing_of_indices, standing_of_terms}
-use Rattle.ep_size.specs.declared.standing.Standing.{Standing}
+use Rattle.ep_size.proofs.Words.{◌≡◌, ℕ, ◌+◌, ◌<◌, ◌≤◌, Bool, true, false, ◌&&◌, ◌||◌, List, [], ◌∷◌, length, drop, get_or, refl, sym, ap, ◌∙◌, Option, Some, None, ℤ, ◌++◌, is_some, list_any, at_drop_all, at_drop_more, or_assoc, or-false, and-true, Name, generator_names, is_decision, index_holds_decision, one_holds_decision, term_holds_decision, domain_tree, domains_of, expr_tree, expr_trees, generators_of, indices_of, ranges_of, terms_of, with_range, Domain, Range, One', Span', Bound, has_cells, has_domain, has_value, Expr, Generator, Scalar, only_cells, alone, are_free, are_free_domains, are_free_generators, are_free_indices, are_free_ranges, are_free_terms, is_free_domain, both, standing_of, standing_of_all, standing_of_indices, standing_of_terms, Standing}
 
 pub and_again : (a b c : Bool) → ((a && b) && c) ≡ (a && (b && c))
 and_again true b c = refl

@@ -1,38 +1,15 @@
 -- Forms over matrices by what is known of their parts: what each is, and what it weighs.
-use Rattle.std.proofs.Common.{◌≡◌, ℕ, suc, ◌+◌, ◌*◌, true, List, [], ◌∷◌, ◌++◌, length, refl, sym, ap, subst, ◌∙◌, Ok, Err, rules, vec_len}
+use Rattle.ep_size.proofs.Words.{◌≡◌, ℕ, suc, ◌+◌, ◌*◌, true, List, [], ◌∷◌, ◌++◌, length, refl, sym, ap, subst, ◌∙◌, Ok, Err, rules, vec_len, int_lt, map, pos, ℤ, Option, Some, None, append-nil, length-map, farthest_end, only, width, MOST_NUMBER, LexOp, Place, extent-all_different, extent-at_least, extent-at_most, extent-folded, extent-gcc, extent-in_set, extent-lex, extent-table, Env, a_node, counting_weight, decided_weight, farthest_of, farthest_reach, first_products, folded_weight, number_reach, reaches_at, widths, decisions_in, extent, fixed_span, folded_span, holds_decision, reaches, span_of, truth_span, ExprTree, all_different, at_least, at_most, folded, gcc, in_set, lex, table, value_tree-matrix, value_tree-number, Grid, Grids, as_parts, filled, listed_values, map_grid, map_grids, matrix, no_values, rows_of, scalars_of, single, value_and, value_tree, values_from, capped, FoldOp, Mode, TellsValue, fixed_grid, grid_of, grids_from, Added, Finished, Finishes, IsNumberNode, is_far_node, GivesFold, IsFoldNode, RefusesFold, fold_reaches, is_far_fold, SizeError, Limit, Memory, Widens, Widths}
 use Rattle.std.specs.declared.alloc.Global.{Global}
 use Rattle.std.specs.declared.vec.Vec.{Vec}
-use Rattle.std.specs.Prelude.{int_lt, map, pos, ℤ, Option, Some, None}
-use Rattle.std.proofs.lemmas.List.{append-nil, length-map}
-use Rattle.ep_base.specs.Intervals.{farthest_end, only, width}
-use Rattle.ep_base.specs.Reads.{MOST_NUMBER}
-use Rattle.ep_base.specs.declared.operators.LexOp.{LexOp}
-use Rattle.ep_base.specs.declared.places.Place.{Place}
-use Rattle.ep_tree.proofs.ReachEquations.{extent-all_different, extent-at_least, extent-at_most, extent-folded, extent-gcc, extent-in_set, extent-lex, extent-table}
-use Rattle.ep_tree.specs.Environments.{Env}
-use Rattle.ep_tree.specs.Measures.{a_node, counting_weight, decided_weight, farthest_of, farthest_reach, first_products, folded_weight, number_reach, reaches_at, widths}
 use Rattle.ep_tree.specs.Reach as defined
-use Rattle.ep_tree.specs.Reach.{Extent, decisions_in, extent, fixed_span, folded_span, holds_decision, reaches, span_of, truth_span}
-use Rattle.ep_tree.specs.Trees.{ExprTree, all_different, at_least, at_most, folded, gcc, in_set, lex, table}
-use Rattle.ep_tree.proofs.ViewLemmas.{value_tree-matrix, value_tree-number}
-use Rattle.ep_tree.specs.Values.{Grid, Grids, as_parts, filled, listed_values, map_grid, map_grids, matrix, no_values, rows_of, scalars_of, single, value_and}
-use Rattle.ep_tree.specs.Views.{value_tree, values_from}
+use Rattle.ep_tree.specs.Reach.{Extent}
 use Rattle.ep_tree.specs.declared.values.Value.{Value, Number as NumberValue, Matrix as ValueMatrix}
-use Rattle.ep_size.specs.Totals.{capped}
-use Rattle.ep_tree.specs.declared.syntax.FoldOp.{FoldOp}
-use Rattle.ep_tree.specs.declared.values.Mode.{Mode}
 use Rattle.ep_size.proofs.FormSteps.{measured_decided, number_node, one_number, own_weight, two_number}
 use Rattle.ep_size.specs.Extents as own
-use Rattle.ep_size.specs.Extents.{TellsValue, fixed_grid, grid_of, grids_from}
-use Rattle.ep_size.specs.Finishing.{Added, Finished, Finishes, IsNumberNode, is_far_node}
-use Rattle.ep_size.specs.Folds.{GivesFold, IsFoldNode, RefusesFold, fold_reaches, is_far_fold}
-use Rattle.ep_size.specs.declared.errors.SizeError.{SizeError}
-use Rattle.ep_size.specs.declared.errors.SizeError.TheVariants.{Limit, Memory}
 use Rattle.ep_size.specs.declared.extents.Extent as declared
 use Rattle.ep_size.specs.declared.extents.Extent.TheVariants.{Number}
 use Rattle.ep_size.specs.declared.extents.Span.{Span}
-use Rattle.ep_size.specs.Widths.{Widens}
-use Rattle.ep_size.specs.declared.widths.Widths.{Widths}
 
 -- ---- folds
 

@@ -1,24 +1,7 @@
 -- How measures compose, and which limits are passed.
-use Rattle.std.proofs.Common.{◌≡◌, ℕ, ◌+◌, ◌<◌, ◌≤◌, Bool, true, false, List, [], ◌∷◌, ◌++◌, length, refl, sym, ap, subst, ◌∙◌, inl, inr, arith}
-use Rattle.std.specs.Prelude.{Contains, flat_map, fold, map, nat_lt, int_lt, ◌||◌, if◌then◌else◌, ℤ, pos}
-use Rattle.std.specs.Int.{int_max}
-use Rattle.std.specs.List.{list_any}
-use Rattle.std.proofs.lemmas.Int.{ints}
-use Rattle.std.proofs.lemmas.List.{map-append}
-use Rattle.std.proofs.lemmas.List.Sums.{sum_by-append, sum_by-cons}
-use Rattle.std.proofs.lemmas.Grind.{flat_map-append}
-use Rattle.std.proofs.Math.Bool.{or_assoc}
-use Rattle.ep_base.specs.Intervals.{Interval, farthest_end}
-use Rattle.ep_base.specs.Numbers.{absolute_of}
-use Rattle.ep_base.specs.Reads.{MOST_NUMBER}
+use Rattle.ep_size.proofs.Words.{◌≡◌, ℕ, ◌+◌, ◌<◌, ◌≤◌, Bool, true, false, List, [], ◌∷◌, ◌++◌, length, refl, sym, ap, subst, ◌∙◌, inl, inr, arith, flat_map, fold, map, nat_lt, int_lt, ◌||◌, if◌then◌else◌, ℤ, pos, int_max, list_any, ints, map-append, sum_by-append, sum_by-cons, flat_map-append, or_assoc, Interval, farthest_end, absolute_of, MOST_NUMBER, Refusal, over_limit, MOST_SIZE, Met, farthest_of, farthest_reach, reaches_at, weight_at, weight_of, limits_passed, Mode, IsPassed, is_far}
+use Rattle.std.specs.Prelude.{Contains}
 use Rattle.ep_base.specs.declared.operators.Limit.{Limit as LimitName}
-use Rattle.ep_tree.specs.Binding.{Refusal, over_limit}
-use Rattle.ep_tree.specs.Limits.{MOST_SIZE}
-use Rattle.ep_tree.specs.Measures.{Met, farthest_of, farthest_reach, reaches_at, weight_at, weight_of}
-use Rattle.ep_tree.specs.Solutions.{limits_passed}
-use Rattle.ep_tree.specs.declared.values.Mode.{Mode}
-use Rattle.ep_eval.specs.Meters.{IsPassed}
-use Rattle.ep_size.specs.Meters.{is_far}
 
 -- ---- reach
 

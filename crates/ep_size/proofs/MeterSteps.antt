@@ -1,25 +1,10 @@
 -- How measuring goes on: what is told composes, with weights beside.
-use Rattle.std.proofs.Common.{◌≡◌, ◌⊎◌, ℕ, ◌+◌, ◌≤◌, ◌<◌, Bool, true, false, List, [], ◌∷◌, ◌++◌, length, refl, sym, ap, subst, ◌∙◌, inl, inr, arith, Ok, Err}
-use Rattle.std.specs.Prelude.{Contains, Option, Some, None, Result, int_lt, is_some}
+use Rattle.ep_size.proofs.Words.{◌≡◌, ◌⊎◌, ℕ, ◌+◌, ◌≤◌, ◌<◌, Bool, true, false, List, [], ◌∷◌, ◌++◌, length, refl, sym, ap, subst, ◌∙◌, inl, inr, arith, Ok, Err, Option, Some, None, Result, int_lt, is_some, Joins, SameNodes, node_walked, Counts, IsPassed, Passes, Went, Meter, Env, MOST_SIZE, Met, a_generator, a_node, farthest_of, farthest_reach, met, reaches_at, weight_at, weight_of, ExprTree, Mode, IsKnownExtent, Finished, Finishes, Going, SettlesMade, Told, WeighsNodes, is_far, capped, SizeError, Limit, Totals}
+use Rattle.std.specs.Prelude.{Contains}
 use Rattle.ep_base.specs.declared.operators.Limit.{Limit as LimitName}
 use Rattle.ep_eval.proofs.MeterSteps as walks
-use Rattle.ep_eval.proofs.MeterSteps.{Joins, SameNodes, node_walked}
-use Rattle.ep_eval.specs.Meters.{Counts, IsPassed, Passes, Went}
-use Rattle.ep_eval.specs.declared.meter.Meter.{Meter}
-use Rattle.ep_tree.specs.Environments.{Env}
-use Rattle.ep_tree.specs.Limits.{MOST_SIZE}
-use Rattle.ep_tree.specs.Measures.{Met, a_generator, a_node, farthest_of, farthest_reach, met, reaches_at, weight_at, weight_of}
-use Rattle.ep_tree.specs.Trees.{ExprTree}
-use Rattle.ep_tree.specs.declared.values.Mode.{Mode}
 use Rattle.ep_size.proofs.Measurings.{far_either, near_nothing, weight-append, weight-cons}
-use Rattle.ep_size.specs.Extents.{IsKnownExtent}
-use Rattle.ep_size.specs.Finishing.{Finished, Finishes}
-use Rattle.ep_size.specs.Meters.{Going, SettlesMade, Told, WeighsNodes, is_far}
-use Rattle.ep_size.specs.Totals.{capped}
-use Rattle.ep_size.specs.declared.errors.SizeError.{SizeError}
-use Rattle.ep_size.specs.declared.errors.SizeError.TheVariants.{Limit}
 use Rattle.ep_size.specs.declared.extents.Extent.{Extent}
-use Rattle.ep_size.specs.declared.totals.Totals.{Totals}
 
 pub joins : (mode : Mode) → Joins (is_far mode)
 unfolding farthest_reach farthest_of

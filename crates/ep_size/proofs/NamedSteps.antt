@@ -1,24 +1,8 @@
 -- A name that stands for a decision variable.
-use Rattle.std.proofs.Common.{◌≡◌, ℕ, [], ◌∷◌, List, ℤ, true, false, refl, sym, ap, ◌∙◌, Some, Err, arith}
-use Rattle.ep_base.specs.Intervals.{Interval, farthest_end}
-use Rattle.ep_base.specs.Reads.{is_too_far}
-use Rattle.ep_base.specs.declared.names.Name.{Name}
-use Rattle.ep_base.specs.declared.places.Place.{Place}
-use Rattle.ep_tree.proofs.ReachEquations.{extent-named, holds_decision-named}
-use Rattle.ep_tree.specs.Environments.{Env, has_cells}
-use Rattle.ep_tree.specs.Measures.{a_node, decided_weight, number_reach, reaches_at, weight_at}
-use Rattle.ep_tree.specs.Reach.{cell_span, decisions_in, extent, holds_decision, is_decision, named_extent}
-use Rattle.ep_tree.specs.Trees.{named}
-use Rattle.ep_tree.specs.Values.{filled}
-use Rattle.ep_tree.specs.declared.values.Mode.{Mode}
-use Rattle.ep_tree.specs.declared.values.Scalar.{Scalar}
+use Rattle.ep_size.proofs.Words.{◌≡◌, ℕ, [], ◌∷◌, List, ℤ, true, false, refl, sym, ap, ◌∙◌, Some, Err, arith, Interval, farthest_end, is_too_far, Name, Place, extent-named, holds_decision-named, Env, has_cells, a_node, decided_weight, number_reach, reaches_at, weight_at, cell_span, decisions_in, extent, holds_decision, is_decision, named_extent, named, filled, Mode, Scalar, TellsValue, grid_of, plain_span, Finished, Finishes, IsNumberNode, Keeps, SizeError}
 use Rattle.ep_size.proofs.FormSteps.{measured_decided, own_weight}
 use Rattle.ep_size.proofs.Measurings.{near_nothing}
 use Rattle.ep_size.proofs.NodeSteps.{err_gives, number_finished, number_refused}
-use Rattle.ep_size.specs.Extents.{TellsValue, grid_of, plain_span}
-use Rattle.ep_size.specs.Finishing.{Finished, Finishes, IsNumberNode}
-use Rattle.ep_size.specs.Spans.{Keeps}
-use Rattle.ep_size.specs.declared.errors.SizeError.{SizeError}
 use Rattle.ep_size.specs.declared.extents.Extent.{Extent}
 use Rattle.ep_size.specs.declared.extents.Extent.TheVariants.{Number}
 use Rattle.ep_size.specs.declared.extents.Span.{Span}

@@ -1,22 +1,7 @@
 -- Nodes that hold a decision variable and are numbers.
-use Rattle.std.proofs.Common.{◌≡◌, ℕ, Bool, true, false, [], ◌∷◌, refl, sym, ap, subst, ◌∙◌, Err}
-use Rattle.std.specs.Prelude.{Result, if◌then◌else◌}
-use Rattle.ep_base.specs.Intervals.{Interval, farthest_end, product_interval}
-use Rattle.ep_base.specs.Reads.{is_too_far}
-use Rattle.ep_tree.specs.Environments.{Env}
-use Rattle.ep_tree.specs.Measures.{a_node, number_reach}
+use Rattle.ep_size.proofs.Words.{◌≡◌, ℕ, Bool, true, false, [], ◌∷◌, refl, sym, ap, subst, ◌∙◌, Err, Result, if◌then◌else◌, Interval, farthest_end, product_interval, is_too_far, Env, a_node, number_reach, decisions_in, holds_decision, product_span, wide_span, with_spread, ExprTree, single, Mode, TellsValue, grid_of, plain_span, Added, Finished, Finishes, Gives, IsNumberNode, is_far, Keeps, SizeError, Limit, Memory}
 use Rattle.ep_tree.specs.Reach as defined
-use Rattle.ep_tree.specs.Reach.{decisions_in, holds_decision, product_span, wide_span, with_spread}
-use Rattle.ep_tree.specs.Trees.{ExprTree}
-use Rattle.ep_tree.specs.Values.{single}
-use Rattle.ep_tree.specs.declared.values.Mode.{Mode}
 use Rattle.ep_size.proofs.Measurings.{near_alone}
-use Rattle.ep_size.specs.Extents.{TellsValue, grid_of, plain_span}
-use Rattle.ep_size.specs.Finishing.{Added, Finished, Finishes, Gives, IsNumberNode}
-use Rattle.ep_size.specs.Meters.{is_far}
-use Rattle.ep_size.specs.Spans.{Keeps}
-use Rattle.ep_size.specs.declared.errors.SizeError.{SizeError}
-use Rattle.ep_size.specs.declared.errors.SizeError.TheVariants.{Limit, Memory}
 use Rattle.ep_size.specs.declared.extents.Extent.{Extent}
 use Rattle.ep_size.specs.declared.extents.Extent.TheVariants.{Number}
 use Rattle.ep_size.specs.declared.extents.Span.{Span}

@@ -1,23 +1,13 @@
 -- What indices leave of a matrix whose parts are known one by one.
-use Rattle.std.proofs.Common.{◌≡◌, true, ℤ, List, [], ◌∷◌, ◌++◌, map, refl, sym, ap, subst, ◌∙◌, append-nil, append_assoc, Option, Some, None}
-use Rattle.std.specs.Prelude.{option_and_then, option_map, unwrap_or}
-use Rattle.std.specs.List.{list_all}
-use Rattle.std.proofs.lemmas.List.{map-append}
+use Rattle.ep_size.proofs.Words.{◌≡◌, true, ℤ, List, [], ◌∷◌, ◌++◌, map, refl, sym, ap, subst, ◌∙◌, append-nil, append_assoc, Option, Some, None, option_and_then, option_map, unwrap_or, list_all, map-append, no_some, some_is, Index, all_defined, any_index, as_parts, at_index, listed_values, map_grid, map_grids, matrix, part_at, read_value, single, value_and, value_tree, values_from, Value, fixed_grid, grid_of, grids_from, TellsExtent, IsPart, ReadsGrid, is_told, Matrix}
 use Rattle.std.specs.declared.alloc.Global.{Global}
 use Rattle.std.specs.declared.vec.Vec.{Vec}
-use Rattle.ep_base.proofs.Small.{no_some, some_is}
 use Rattle.ep_tree.specs.Reach.{Extent as ExtentTree, MeasuredIndex, Span, decided_index, fixed_index, fixed_span, no_extent, plain_index, slice_extent, whole_index}
-use Rattle.ep_tree.specs.Values.{Index, all_defined, any_index, as_parts, at_index, listed_values, map_grid, map_grids, matrix, part_at, read_value, single, value_and}
-use Rattle.ep_tree.specs.Views.{value_tree, values_from}
-use Rattle.ep_tree.specs.declared.values.Value.{Value}
 use Rattle.ep_size.proofs.ExtentViews.{grid_of-matrix}
 use Rattle.ep_size.proofs.KnownParts.{listed_known}
 use Rattle.ep_size.proofs.ListNodes.{grids_from-map}
 use Rattle.ep_size.proofs.SliceParts.{all_told, defined_more, defined_none, part_grid, slice_told}
-use Rattle.ep_size.specs.Extents.{fixed_grid, grid_of, grids_from}
-use Rattle.ep_size.specs.Lists.{TellsExtent}
-use Rattle.ep_size.specs.Slices.{IsPart, ReadsGrid, is_told}
-use Rattle.ep_size.specs.declared.extents.Extent.{Extent, Matrix}
+use Rattle.ep_size.specs.declared.extents.Extent.{Extent}
 
 -- ---- parts once more
 

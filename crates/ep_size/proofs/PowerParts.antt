@@ -1,24 +1,8 @@
 -- Powers of the numbers between two ends.
-use Rattle.std.proofs.Common.{◌≡◌, ℕ, ℤ, pos, negsuc, Bool, true, false, refl, sym, ap, subst, ◌∙◌, arith, Option, Some, None, Ok, Err}
-use Rattle.std.specs.Prelude.{Result, int_lt, IfSome, IsSome}
-use Rattle.std.proofs.lemmas.Int.{ints}
-use Rattle.ep_base.specs.Intervals.{Interval, farthest_end, nth_power_interval, only, power_interval, IsWithinReach}
-use Rattle.ep_base.specs.Numbers.{absolute_of}
-use Rattle.ep_base.specs.Reads.{is_too_far}
-use Rattle.ep_numbers.proofs.Ends.{untold_reach}
-use Rattle.ep_numbers.specs.Spans.{wide_interval}
-use Rattle.ep_numbers.specs.declared.spans.WideSpan.{WideSpan}
+use Rattle.ep_size.proofs.Words.{◌≡◌, ℕ, ℤ, pos, negsuc, Bool, true, false, refl, sym, ap, subst, ◌∙◌, arith, Option, Some, None, Ok, Err, Result, int_lt, IfSome, IsSome, ints, Interval, farthest_end, nth_power_interval, only, power_interval, IsWithinReach, absolute_of, is_too_far, untold_reach, wide_interval, WideSpan, MeasuredIndex, fixed_index, measured_index, wide_span, plain_span, Gives, measured_of, SizeError, Limit, Indexed, Stated}
 use Rattle.ep_base.specs.declared.operators.Limit.{Limit as LimitName}
 use Rattle.ep_tree.specs.Reach as defined
-use Rattle.ep_tree.specs.Reach.{MeasuredIndex, fixed_index, measured_index, wide_span}
-use Rattle.ep_size.specs.Extents.{plain_span}
-use Rattle.ep_size.specs.Finishing.{Gives}
-use Rattle.ep_size.specs.Indices.{measured_of}
-use Rattle.ep_size.specs.declared.errors.SizeError.{SizeError}
-use Rattle.ep_size.specs.declared.errors.SizeError.TheVariants.{Limit}
 use Rattle.ep_size.specs.declared.extents.Span.{Span}
-use Rattle.ep_size.specs.declared.reading.Indexed.{Indexed}
-use Rattle.ep_size.specs.declared.reading.Indexed.TheVariants.{Stated}
 
 -- a power whose interval is told is as near as that
 pub gives_told : (o : Option WideSpan) (wide : WideSpan) (r : Result Span SizeError) (i : Interval) → o ≡ Some wide → IfSome o (λ w. wide_interval w ≡ i)

@@ -1,32 +1,9 @@
 -- Quantifiers that hold a decision variable, by their instances one after another.
-use Rattle.std.proofs.Common.{◌≡◌, ℕ, ◌+◌, ◌≤◌, ◌<◌, ◌^◌, Bool, true, false, List, [], ◌∷◌, ◌++◌, length, ℤ, refl, sym, ap, subst, ◌∙◌, arith}
-use Rattle.std.specs.Prelude.{Option, Some, None, ◌&&◌, ◌||◌, not, if◌then◌else◌, bytes_eq, flat_map, map, option_map, unwrap_or}
-use Rattle.std.specs.List.{list_any}
-use Rattle.std.proofs.Math.Path.{fun_ext}
-use Rattle.std.proofs.lemmas.List.{append-nil, length-append, length-map, map-append}
-use Rattle.ep_base.specs.declared.names.Name.{Name}
-use Rattle.ep_base.specs.declared.places.Place.{Place}
+use Rattle.ep_size.proofs.Words.{◌≡◌, ℕ, ◌+◌, ◌≤◌, ◌<◌, ◌^◌, Bool, true, false, List, [], ◌∷◌, ◌++◌, length, ℤ, refl, sym, ap, subst, ◌∙◌, arith, Option, Some, None, ◌&&◌, ◌||◌, not, if◌then◌else◌, bytes_eq, flat_map, map, option_map, unwrap_or, list_any, fun_ext, append-nil, length-append, length-map, map-append, Name, Place, extent-quantified, holds_decision-quantified, Bound, Env, has_value, scalar_in, with_number, domain_values, numbered, over_names, standing_for, Met, a_node, decided_weight, met, met_domain, quantified_weight, reaches_at, decisions_in, extent, hiding, holds_decision, instance_span, is_decision, quantified_span, span_of, DomainTree, ExprTree, quantified, of_scalar, single, QuantOp, Mode, Scalar, met_quantified, Meter, IsNumberNode, Going, Told, HasInstances, Instances, Totals}
 use Rattle.ep_size.proofs.SliceParts.{append_again}
-use Rattle.ep_tree.proofs.ReachEquations.{extent-quantified, holds_decision-quantified}
-use Rattle.ep_tree.specs.Environments.{Bound, Env, has_value, scalar_in, with_number}
-use Rattle.ep_tree.specs.Evaluation.{domain_values, numbered, over_names, standing_for}
-use Rattle.ep_tree.specs.Measures.{Met, a_node, decided_weight, met, met_domain, quantified_weight, reaches_at}
-use Rattle.ep_tree.specs.Reach.{Span, decisions_in, extent, hiding, holds_decision, instance_span, is_decision, quantified_span, span_of}
-use Rattle.ep_tree.specs.Trees.{DomainTree, ExprTree, quantified}
-use Rattle.ep_tree.specs.Types.{of_scalar}
-use Rattle.ep_tree.specs.Values.{single}
-use Rattle.ep_tree.specs.declared.syntax.QuantOp.{QuantOp}
-use Rattle.ep_tree.specs.declared.values.Mode.{Mode}
-use Rattle.ep_tree.specs.declared.values.Scalar.{Scalar}
-use Rattle.ep_eval.proofs.Instances.{met_quantified}
-use Rattle.ep_eval.specs.declared.meter.Meter.{Meter}
+use Rattle.ep_tree.specs.Reach.{Span}
 use Rattle.ep_size.proofs.FormSteps.{measured_decided, number_node}
 use Rattle.ep_size.proofs.MeterSteps.{going_begins, going_ends, going_more_at}
-use Rattle.ep_size.specs.Finishing.{IsNumberNode}
-use Rattle.ep_size.specs.Meters.{Going, Told}
-use Rattle.ep_size.specs.Quantified.{HasInstances}
-use Rattle.ep_size.specs.declared.instances.Instances.{Instances}
-use Rattle.ep_size.specs.declared.totals.Totals.{Totals}
 
 -- ---- names that stand for numbers are no decision variables
 

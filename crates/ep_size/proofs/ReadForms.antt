@@ -1,29 +1,9 @@
 -- Reads: what a node is that gives a scalar, and its indices one after another.
-use Rattle.std.proofs.Common.{◌≡◌, ℕ, ◌+◌, ◌<◌, ◌≤◌, Bool, true, List, [], ◌∷◌, ◌++◌, length, map, take, drop, get_or, refl, sym, ap, subst, ◌∙◌, Option, Some, None}
-use Rattle.std.specs.Prelude.{not, ◌&&◌, flat_map}
-use Rattle.std.specs.List.{list_any}
-use Rattle.std.proofs.lemmas.List.{append_assoc, append-nil, map-append}
-use Rattle.ep_base.specs.declared.places.Place.{Place}
-use Rattle.ep_tree.proofs.ReachEquations.{extent-read}
-use Rattle.ep_tree.specs.Environments.{Env}
-use Rattle.ep_tree.specs.Evaluation.{evaluate, number_in, type_in}
-use Rattle.ep_tree.specs.Measures.{decided_weight, met, met_end, met_indices, reaches_at, read_weight}
-use Rattle.ep_tree.specs.Reach.{Extent, MeasuredIndex, Span, extent, decisions_in, holds_decision, is_decided_index, is_decision_name, measured, measured_index, measured_list, parts_left, read_extent, read_span, reads_cell, span_of}
-use Rattle.ep_tree.specs.Trees.{ExprTree, Indices, read}
-use Rattle.ep_tree.specs.Types.{of_scalar}
-use Rattle.ep_tree.specs.Values.{scalars_of, single}
-use Rattle.ep_tree.specs.Views.{end_of, expr_tree, indices_of}
-use Rattle.ep_tree.specs.declared.syntax.Expr.{Expr}
-use Rattle.ep_tree.specs.declared.values.Mode.{Mode}
-use Rattle.ep_tree.specs.declared.values.Scalar.{Scalar}
+use Rattle.ep_size.proofs.Words.{◌≡◌, ℕ, ◌+◌, ◌<◌, ◌≤◌, Bool, true, List, [], ◌∷◌, ◌++◌, length, map, take, drop, get_or, refl, sym, ap, subst, ◌∙◌, Option, Some, None, not, ◌&&◌, flat_map, list_any, append_assoc, append-nil, map-append, Place, extent-read, Env, evaluate, number_in, type_in, decided_weight, met, met_end, met_indices, reaches_at, read_weight, MeasuredIndex, extent, decisions_in, holds_decision, is_decided_index, is_decision_name, measured, measured_index, measured_list, parts_left, read_extent, read_span, reads_cell, span_of, ExprTree, Indices, read, of_scalar, scalars_of, single, end_of, expr_tree, indices_of, Expr, Mode, Scalar, IsNumberNode, measured_of, Going, Told, Indexed, Every, Totals}
+use Rattle.ep_tree.specs.Reach.{Extent, Span}
 use Rattle.ep_size.proofs.FormSteps.{measured_decided, number_node}
 use Rattle.ep_size.proofs.MeterSteps.{going_begins, going_ends, going_more}
-use Rattle.ep_size.specs.Finishing.{IsNumberNode}
-use Rattle.ep_size.specs.Indices.{index_of, measured_of}
-use Rattle.ep_size.specs.Meters.{Going, Told}
-use Rattle.ep_size.specs.declared.reading.Indexed.{Indexed}
-use Rattle.ep_size.specs.declared.reading.Indexed.TheVariants.{Every}
-use Rattle.ep_size.specs.declared.totals.Totals.{Totals}
+use Rattle.ep_size.specs.Indices.{index_of}
 
 -- the scalars that indices leave of a matrix
 abbrev pub left_of : List MeasuredIndex → Extent → List Span

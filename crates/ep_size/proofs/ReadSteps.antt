@@ -1,37 +1,15 @@
 -- What the indices of a read leave of cells that are alike.
-use Rattle.std.proofs.Common.{◌≡◌, ℕ, suc, ◌+◌, ◌*◌, Bool, true, false, List, [], ◌∷◌, ◌++◌, length, map, refl, sym, ap, subst, ◌∙◌, arith, Option, Some, None}
-use Rattle.std.specs.Prelude.{ℤ, if◌then◌else◌, ◌||◌, ◌↔◌, Contains, IsTrue, flat_map, replicate, option_to_list}
-use Rattle.std.specs.Ordering.{int_eq}
-use Rattle.std.specs.List.{list_any}
-use Rattle.std.proofs.lemmas.Grind.{flat_map-append}
-use Rattle.std.proofs.lemmas.List.{append-nil, replicate-append-replicate}
-use Rattle.ep_base.specs.Numbers.{has_number}
-use Rattle.ep_tree.proofs.ReachEquations.{holds_decision-named}
-use Rattle.ep_tree.specs.Environments.{Env}
-use Rattle.ep_tree.specs.Evaluation.{evaluate, number_in}
+use Rattle.ep_size.proofs.Words.{◌≡◌, ℕ, suc, ◌+◌, ◌*◌, Bool, true, false, List, [], ◌∷◌, ◌++◌, length, map, refl, sym, ap, subst, ◌∙◌, arith, Option, Some, None, ℤ, if◌then◌else◌, ◌||◌, ◌↔◌, IsTrue, flat_map, replicate, option_to_list, int_eq, list_any, flat_map-append, append-nil, replicate-append-replicate, has_number, holds_decision-named, Env, evaluate, number_in, MeasuredIndex, decided_index, decisions_in, extent, fixed_index, holds_decision, is_decision_name, left_by, measured_index, parts_left, whole_index, ExprTree, absolute, all_different, all_of, any_of, at_least, at_most, binary, chain, compare, comprehension, factorial, flatten, folded, gcc, group, in_domain, in_set, lex, literal, minus, named, negation, number, quantified, read, table, to_int, truth, Mode, held_value, Held, IsKnownExtent, TellsValue, grid_of, plain_span, Matrix, cell_count, Grid, as_parts, filled, listed_values, part_at, scalars_of, scalars_of_all, single, has_is, Hulls, Hulled, cells_left, is_named_tree, kept_parts, measured_of, capped, Indexed, Stated, Every, Decided}
+use Rattle.std.specs.Prelude.{Contains}
 use Rattle.ep_tree.specs.Reach as defined
-use Rattle.ep_tree.specs.Reach.{MeasuredIndex, Span, decided_index, decisions_in, extent, fixed_index, holds_decision, is_decision_name, left_by, measured_index, parts_left, whole_index}
-use Rattle.ep_tree.specs.Trees.{ExprTree, absolute, all_different, all_of, any_of, at_least, at_most, binary, chain, compare, comprehension, factorial, flatten, folded, gcc, group, in_domain, in_set, lex, literal, minus, named, negation, number, quantified, read, table, to_int, truth}
-use Rattle.ep_tree.specs.declared.values.Mode.{Mode}
-use Rattle.ep_eval.specs.Helds.{held_value}
-use Rattle.ep_eval.specs.declared.held.Held.{Held}
-use Rattle.ep_size.specs.Extents.{IsKnownExtent, TellsValue, grid_of, plain_span}
+use Rattle.ep_tree.specs.Reach.{Span}
 use Rattle.std.specs.declared.alloc.Global.{Global}
 use Rattle.std.specs.declared.vec.Vec.{Vec}
-use Rattle.ep_size.specs.declared.extents.Extent.{Extent, Matrix}
+use Rattle.ep_size.specs.declared.extents.Extent.{Extent}
 use Rattle.ep_size.specs.declared.extents.Extent.TheVariants.{Number, Cells, Fixed, Nothing, NoParts}
-use Rattle.ep_tree.specs.Solutions.{cell_count}
-use Rattle.ep_tree.specs.Values.{Grid, as_parts, filled, listed_values, part_at, scalars_of, scalars_of_all, single}
-use Rattle.ep_eval.proofs.ListLaws.{has_is}
 use Rattle.ep_size.proofs.Caps.{product_kept}
 use Rattle.ep_size.proofs.ScalarParts.{cells_repeated}
-use Rattle.ep_size.specs.Hulls.{Hulls}
-use Rattle.ep_size.specs.declared.hulls.Hulled.{Hulled}
-use Rattle.ep_size.specs.Indices.{cells_left, is_named_tree, kept_parts, measured_of}
-use Rattle.ep_size.specs.Totals.{capped}
 use Rattle.ep_size.specs.declared.extents.Span.{Span as OneSpan}
-use Rattle.ep_size.specs.declared.reading.Indexed.{Indexed}
-use Rattle.ep_size.specs.declared.reading.Indexed.TheVariants.{Stated, Every, Decided}
 
 more_parts : (n k : ℕ) → n + k * n ≡ suc k * n
 more_parts n k = grind arith

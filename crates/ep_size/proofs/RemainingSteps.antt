@@ -1,25 +1,10 @@
 -- What indices leave of values, part by part.
-use Rattle.std.proofs.Common.{◌≡◌, ℤ, Bool, List, [], ◌∷◌, ◌++◌, map, refl, sym, ap, subst, ◌∙◌, append-nil, Option, Some, None, true, false}
-use Rattle.std.specs.Ordering.{int_eq}
-use Rattle.std.specs.Prelude.{flat_map, if◌then◌else◌, option_map, option_to_list, IfOk, Result}
-use Rattle.std.proofs.lemmas.Grind.{flat_map-append}
-use Rattle.ep_tree.specs.Reach.{MeasuredIndex, Span, decided_index, fixed_index, fixed_span, left_by, parts_left, whole_index}
-use Rattle.ep_tree.specs.Values.{Grid, Grids, listed_values, map_grid, map_grids, no_values, part_at, ValueTree, matrix, scalars_of, single, value_and}
-use Rattle.ep_tree.specs.Views.{value_tree, values_from}
-use Rattle.ep_tree.specs.declared.values.Value.{Value}
-use Rattle.ep_eval.specs.Helds.{held_value}
-use Rattle.ep_eval.specs.Reading.{part_under}
-use Rattle.ep_eval.specs.declared.held.Held.{Held}
+use Rattle.ep_size.proofs.Words.{◌≡◌, ℤ, Bool, List, [], ◌∷◌, ◌++◌, map, refl, sym, ap, subst, ◌∙◌, append-nil, Option, Some, None, true, false, int_eq, flat_map, if◌then◌else◌, option_map, option_to_list, IfOk, Result, flat_map-append, MeasuredIndex, decided_index, fixed_index, fixed_span, left_by, parts_left, whole_index, Grid, Grids, listed_values, map_grid, map_grids, no_values, part_at, ValueTree, matrix, scalars_of, single, value_and, value_tree, values_from, Value, held_value, part_under, Held, fixed_grid, grid_of, plain_span, Hulls, SizeError, Hulled, keeps_all, measured_of, Indexed}
+use Rattle.ep_tree.specs.Reach.{Span}
 use Rattle.ep_eval.specs.declared.held.Held.TheVariants.{Number as HeldNumber}
-use Rattle.ep_size.specs.Extents.{fixed_grid, grid_of, plain_span}
-use Rattle.ep_size.specs.Hulls.{Hulls}
-use Rattle.ep_size.specs.declared.errors.SizeError.{SizeError}
 use Rattle.ep_size.specs.declared.extents.Extent.{Extent}
 use Rattle.ep_size.specs.declared.extents.Extent.TheVariants.{Fixed}
 use Rattle.ep_size.specs.declared.extents.Span.{Span as OneSpan}
-use Rattle.ep_size.specs.declared.hulls.Hulled.{Hulled}
-use Rattle.ep_size.specs.Indices.{keeps_all, measured_of}
-use Rattle.ep_size.specs.declared.reading.Indexed.{Indexed}
 
 -- the scalars that indices leave of some values
 abbrev pub left_parts : List MeasuredIndex → List Value → List Span

@@ -1,8 +1,5 @@
 -- How many numbers runs have.
-use Rattle.std.proofs.Common.{◌≡◌, ℕ, ◌+◌, ◌<◌, ◌≤◌, List, ◌∷◌, length, drop, get_or, sym, ap, ◌∙◌, arith}
-use Rattle.std.proofs.lemmas.List.{at_drop_all, at_drop_more}
-use Rattle.ep_base.specs.Runs.{numbers, numbers_in}
-use Rattle.ep_base.specs.declared.run_lists.Run.{Run}
+use Rattle.ep_size.proofs.Words.{◌≡◌, ℕ, ◌+◌, ◌<◌, ◌≤◌, List, ◌∷◌, length, drop, get_or, sym, ap, ◌∙◌, arith, at_drop_all, at_drop_more, numbers, numbers_in, Run}
 use Rattle.ep_size.proofs.Caps.{numbers_more}
 
 pub numbers_cut : (runs : List Run) (k : ℕ) (run d : Run) → k < length runs → run ≡ get_or runs k d

@@ -1,16 +1,6 @@
 -- The scalars of values and of cells, one after another.
-use Rattle.std.proofs.Common.{◌≡◌, ℕ, ◌+◌, ◌*◌, ◌<◌, ℤ, suc, List, [], ◌∷◌, ◌++◌, length, refl, sym, ap, ◌∙◌, arith, append_assoc, Some}
-use Rattle.std.specs.Prelude.{map, replicate}
-use Rattle.std.proofs.Math.Nat.{suc-mul}
-use Rattle.std.proofs.lemmas.List.{map_push, replicate-append-replicate, replicate_more}
+use Rattle.ep_size.proofs.Words.{◌≡◌, ℕ, ◌+◌, ◌*◌, ◌<◌, ℤ, suc, List, [], ◌∷◌, ◌++◌, length, refl, sym, ap, ◌∙◌, arith, append_assoc, Some, map, replicate, suc-mul, map_push, replicate-append-replicate, replicate_more, fixed_span, cell_count, as_parts, filled, map_grid, map_grids, matrix, scalars_of, scalars_of_all, single, value_tree, values_from, Value, fixed_grid, plain_span, MOST_TOLD, capped}
 use Rattle.ep_tree.specs.Reach as defined
-use Rattle.ep_tree.specs.Reach.{fixed_span}
-use Rattle.ep_tree.specs.Solutions.{cell_count}
-use Rattle.ep_tree.specs.Values.{as_parts, filled, map_grid, map_grids, matrix, scalars_of, scalars_of_all, single}
-use Rattle.ep_tree.specs.Views.{value_tree, values_from}
-use Rattle.ep_tree.specs.declared.values.Value.{Value}
-use Rattle.ep_size.specs.Extents.{fixed_grid, plain_span}
-use Rattle.ep_size.specs.Totals.{MOST_TOLD, capped}
 use Rattle.ep_size.specs.declared.extents.Span.{Span}
 
 -- one number more

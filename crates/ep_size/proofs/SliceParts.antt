@@ -1,38 +1,17 @@
 -- Slices of cells whose index domains don't stand one after another, part by part.
-use Rattle.std.proofs.Common.{◌≡◌, ℕ, true, false, ℤ, List, [], ◌∷◌, ◌++◌, map, refl, sym, ap, subst, ◌∙◌, append-nil, Option, Some, None}
-use Rattle.std.specs.Prelude.{IfErr, IfOk, Err, Ok, Result, if◌then◌else◌, option_and_then, option_map, unwrap_or}
-use Rattle.std.specs.List.{list_all, list_any}
-use Rattle.std.proofs.lemmas.List.{map-append}
+use Rattle.ep_size.proofs.Words.{◌≡◌, ℕ, true, false, ℤ, List, [], ◌∷◌, ◌++◌, map, refl, sym, ap, subst, ◌∙◌, append-nil, Option, Some, None, IfErr, IfOk, Err, Ok, Result, if◌then◌else◌, option_and_then, option_map, unwrap_or, list_all, list_any, map-append, has_number, Place, extent-read, Env, type_in, decided_weight, number_reach, reaches_at, read_weight, ExprTree, Indices, read, is_matrix, Grid, Index, all_defined, any_index, as_parts, at_index, filled, listed_values, matrix, read_value, Mode, ValueType, Finishes, keeps_all, measured_of, TellsExtent, IsMatrixNode, IsPart, LeavesDomains, PartOf, is_told, names_one, SizeError, Memory, Matrix, Indexed}
 use Rattle.std.specs.declared.alloc.Global.{Global}
 use Rattle.std.specs.declared.vec.Vec.{Vec}
-use Rattle.ep_base.specs.Numbers.{has_number}
-use Rattle.ep_base.specs.declared.places.Place.{Place}
-use Rattle.ep_tree.proofs.ReachEquations.{extent-read}
-use Rattle.ep_tree.specs.Environments.{Env}
-use Rattle.ep_tree.specs.Evaluation.{type_in}
-use Rattle.ep_tree.specs.Measures.{decided_weight, number_reach, reaches_at, read_weight}
 use Rattle.ep_tree.specs.Reach.{Extent as ExtentTree, MeasuredIndex, Span, decided_index, decisions_in, extent, fixed_index, holds_decision, is_decided_index, measured, measured_list, no_extent, plain_index, read_extent, reads_cell, slice_extent, span_of, whole_index}
-use Rattle.ep_tree.specs.Trees.{ExprTree, Indices, read}
-use Rattle.ep_tree.specs.Types.{is_matrix}
-use Rattle.ep_tree.specs.Values.{Grid, Index, all_defined, any_index, as_parts, at_index, filled, listed_values, matrix, read_value}
-use Rattle.ep_tree.specs.declared.values.Mode.{Mode}
-use Rattle.ep_tree.specs.declared.values.ValueType.{ValueType}
 use Rattle.ep_size.proofs.FormSteps.{measured_decided, own_weight}
 use Rattle.ep_size.proofs.ListNodes.{listed_matrix, lists_finish, memory_stops}
 use Rattle.ep_size.proofs.ReadForms.{left_of}
 use Rattle.ep_size.proofs.ReadSteps.{part_of_same}
 use Rattle.ep_size.proofs.SliceSteps.{cells_listed, matrix_read, no_weight}
 use Rattle.ep_size.specs.Extents.{grid_of, plain_span as known_span}
-use Rattle.ep_size.specs.Finishing.{Finishes}
-use Rattle.ep_size.specs.Indices.{keeps_all, measured_of}
-use Rattle.ep_size.specs.Lists.{TellsExtent, IsMatrixNode}
-use Rattle.ep_size.specs.Slices.{IsPart, LeavesDomains, PartOf, is_told, names_one}
-use Rattle.ep_size.specs.declared.errors.SizeError.{SizeError}
-use Rattle.ep_size.specs.declared.errors.SizeError.TheVariants.{Memory}
-use Rattle.ep_size.specs.declared.extents.Extent.{Extent, Matrix}
+use Rattle.ep_size.specs.declared.extents.Extent.{Extent}
 use Rattle.ep_size.specs.declared.extents.Extent.TheVariants.{Cells}
 use Rattle.ep_size.specs.declared.extents.Span.{Span as OneSpan}
-use Rattle.ep_size.specs.declared.reading.Indexed.{Indexed}
 
 -- ---- indices that have values
 

@@ -1,33 +1,14 @@
 -- Slices of cells that are alike.
-use Rattle.std.proofs.Common.{◌≡◌, ◌+◌, ◌*◌, length, Bool, true, false, List, [], ◌∷◌, ℤ, map, refl, sym, ap, subst, ◌∙◌, Option, Some, None}
-use Rattle.std.specs.Prelude.{if◌then◌else◌, option_map, option_and_then, sum_by, unwrap_or, ◌↔◌, Contains, IsTrue, IfSome}
-use Rattle.std.specs.List.{list_any}
-use Rattle.ep_base.specs.Intervals.{width}
-use Rattle.ep_base.specs.Numbers.{has_number}
-use Rattle.ep_base.specs.declared.places.Place.{Place}
-use Rattle.ep_eval.proofs.ListLaws.{has_is}
-use Rattle.ep_tree.proofs.ReachEquations.{extent-read}
-use Rattle.ep_tree.specs.Environments.{Env}
-use Rattle.ep_tree.specs.Evaluation.{type_in}
-use Rattle.ep_tree.specs.Measures.{decided_weight, index_width, number_reach, reaches_at, read_weight}
+use Rattle.ep_size.proofs.Words.{◌≡◌, ◌+◌, ◌*◌, length, Bool, true, false, List, [], ◌∷◌, ℤ, map, refl, sym, ap, subst, ◌∙◌, Option, Some, None, if◌then◌else◌, option_map, option_and_then, sum_by, unwrap_or, ◌↔◌, IsTrue, IfSome, list_any, width, has_number, Place, has_is, extent-read, Env, type_in, decided_weight, index_width, number_reach, reaches_at, read_weight, ExprTree, Indices, read, is_integer, is_matrix, Grid, all_defined, any_index, as_parts, at_index, filled, listed_values, matrix, read_value, Mode, ValueType, measured_of, TellsExtent, IsMatrixNode, Indexed, Stated, Every, LeavesDomains}
+use Rattle.std.specs.Prelude.{Contains}
 use Rattle.ep_tree.specs.Reach.{Extent as ExtentTree, MeasuredIndex, Span, decisions_in, extent, fixed_index, holds_decision, is_decided_index, measured, measured_list, no_extent, plain_index, read_extent, reads_cell, slice_extent, span_of, whole_index}
-use Rattle.ep_tree.specs.Trees.{ExprTree, Indices, read}
-use Rattle.ep_tree.specs.Types.{is_integer, is_matrix}
-use Rattle.ep_tree.specs.Values.{Grid, all_defined, any_index, as_parts, at_index, filled, listed_values, matrix, read_value}
-use Rattle.ep_tree.specs.declared.values.Mode.{Mode}
-use Rattle.ep_tree.specs.declared.values.ValueType.{ValueType}
 use Rattle.ep_size.proofs.FormSteps.{measured_decided, own_weight}
 use Rattle.ep_size.proofs.ReadForms.{left_of}
 use Rattle.ep_size.proofs.ReadSteps.{part_of_same}
 use Rattle.ep_size.specs.Extents.{IsKnownExtent, TellsValue, grid_of, plain_span as known_span}
-use Rattle.ep_size.specs.Indices.{measured_of}
-use Rattle.ep_size.specs.Lists.{TellsExtent, IsMatrixNode}
 use Rattle.ep_size.specs.declared.extents.Extent.{Extent}
 use Rattle.ep_size.specs.declared.extents.Extent.TheVariants.{Cells}
 use Rattle.ep_size.specs.declared.extents.Span.{Span as OneSpan}
-use Rattle.ep_size.specs.declared.reading.Indexed.{Indexed}
-use Rattle.ep_size.specs.declared.reading.Indexed.TheVariants.{Stated, Every}
-use Rattle.ep_size.specs.Slices.{LeavesDomains}
 
 -- without an index all domains are left
 pub leaves_all : (ds : List (List ℤ)) → LeavesDomains [] ds ds

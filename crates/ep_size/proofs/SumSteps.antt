@@ -1,21 +1,7 @@
 -- A sum with one number more.
-use Rattle.std.proofs.Common.{◌≡◌, ℕ, ◌+◌, ◌*◌, ◌<◌, ◌^◌, Bool, true, false, List, [], ◌∷◌, ◌++◌, length, refl, sym, ap, ◌∙◌, arith, SFits, w64, min, of_z, to_z, ◌-◌}
-use Rattle.std.specs.Prelude.{ℤ, pos, negsuc, ◌+ℤ◌, ◌-ℤ◌, ◌≤ℤ◌, neg_ℤ, sum_by, int_lt, nat_abs}
-use Rattle.std.specs.Int.{saturate_signed, w128}
-use Rattle.std.proofs.lemmas.Int.{ints, to_z-of_z}
-use Rattle.std.proofs.lemmas.List.{append-nil, length_push}
-use Rattle.std.proofs.lemmas.List.Elements.{filter-append}
-use Rattle.std.proofs.lemmas.List.Sums.{sum_by_push}
-use Rattle.ep_base.specs.Intervals.{from_to, highs, lows, sum_cost, sum_interval, width}
-use Rattle.ep_base.specs.Numbers.{sum_of}
-use Rattle.ep_base.specs.Runs.{or_zero}
-use Rattle.ep_tree.specs.Measures.{decided_parts, sum_weight}
+use Rattle.ep_size.proofs.Words.{◌≡◌, ℕ, ◌+◌, ◌*◌, ◌<◌, ◌^◌, Bool, true, false, List, [], ◌∷◌, ◌++◌, length, refl, sym, ap, ◌∙◌, arith, SFits, w64, min, of_z, to_z, ◌-◌, ℤ, pos, negsuc, ◌+ℤ◌, ◌-ℤ◌, ◌≤ℤ◌, neg_ℤ, sum_by, int_lt, nat_abs, saturate_signed, w128, ints, to_z-of_z, append-nil, length_push, filter-append, sum_by_push, from_to, highs, lows, sum_cost, sum_interval, width, sum_of, or_zero, decided_parts, sum_weight, reaches, sum_span, wide_span, Sums, capped, Summed}
 use Rattle.ep_tree.specs.Reach as defined
-use Rattle.ep_tree.specs.Reach.{reaches, sum_span, wide_span}
 use Rattle.ep_size.proofs.Caps.{product_kept}
-use Rattle.ep_size.specs.Sums.{Sums}
-use Rattle.ep_size.specs.Totals.{capped}
-use Rattle.ep_size.specs.declared.sums.Summed.{Summed}
 
 low_more : (spans : List defined.Span) (s : defined.Span) → sum_of (lows (reaches (spans ++ s ∷ []))) ≡ sum_of (lows (reaches spans)) +ℤ s.reach.low
 unfolding sum_of

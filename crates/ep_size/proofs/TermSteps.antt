@@ -1,24 +1,9 @@
 -- The terms of a chain, one after another.
-use Rattle.std.proofs.Common.{◌≡◌, ℕ, suc, ◌+◌, ◌<◌, ◌≤◌, ◌^◌, Bool, true, List, [], ◌∷◌, ◌++◌, length, take, drop, get_or, refl, sym, ap, subst, ◌∙◌, arith}
-use Rattle.std.proofs.lemmas.List.{drop_all, drop_more, length-take, take_all, take_more}
-use Rattle.ep_base.specs.declared.places.Place.{Place}
-use Rattle.ep_tree.proofs.ReachEquations.{extent-chain}
-use Rattle.ep_tree.specs.Environments.{Env}
-use Rattle.ep_tree.specs.Measures.{Met, decided_weight, met, met_terms, reaches_at, sum_weight}
-use Rattle.ep_tree.specs.Reach.{Span, decisions_in, extent, holds_decision, signed_span, span_of, sum_span, term_spans}
-use Rattle.ep_tree.specs.Trees.{chain}
-use Rattle.ep_tree.specs.Views.{expr_tree, terms_of}
-use Rattle.ep_tree.specs.declared.syntax.Expr.{Expr}
-use Rattle.ep_tree.specs.declared.values.Mode.{Mode}
+use Rattle.ep_size.proofs.Words.{◌≡◌, ℕ, suc, ◌+◌, ◌<◌, ◌≤◌, ◌^◌, Bool, true, List, [], ◌∷◌, ◌++◌, length, take, drop, get_or, refl, sym, ap, subst, ◌∙◌, arith, drop_all, drop_more, length-take, take_all, take_more, Place, extent-chain, Env, Met, decided_weight, met, met_terms, reaches_at, sum_weight, decisions_in, extent, holds_decision, signed_span, span_of, sum_span, term_spans, chain, expr_tree, terms_of, Expr, Mode, IsKnownExtent, grid_of, IsNumberNode, Going, Told, Sums, Summed, Totals}
+use Rattle.ep_tree.specs.Reach.{Span}
 use Rattle.ep_size.proofs.FormSteps.{number_node}
 use Rattle.ep_size.proofs.MeterSteps.{going_begins, going_ends, going_more}
-use Rattle.ep_size.specs.Extents.{IsKnownExtent, grid_of}
-use Rattle.ep_size.specs.Finishing.{IsNumberNode}
-use Rattle.ep_size.specs.Meters.{Going, Told}
-use Rattle.ep_size.specs.Sums.{Sums}
 use Rattle.ep_size.specs.declared.extents.Extent.{Extent}
-use Rattle.ep_size.specs.declared.sums.Summed.{Summed}
-use Rattle.ep_size.specs.declared.totals.Totals.{Totals}
 
 -- what some terms meet
 abbrev pub met_by : Mode → Env → List (Bool × Expr) → List Met

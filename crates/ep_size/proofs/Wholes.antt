@@ -1,28 +1,10 @@
 -- The measures of an instance, by those of its cells, its clauses and its objective.
-use Rattle.std.proofs.Common.{◌≡◌, ℕ, ◌+◌, ◌<◌, ◌≤◌, Bool, length, true, false, List, [], ◌∷◌, ◌++◌, refl, sym, ap, subst, ◌∙◌, arith}
-use Rattle.std.specs.Prelude.{Contains, nat_le, nat_lt, if◌then◌else◌, Option, Some, None, option_map, option_to_list}
-use Rattle.std.proofs.lemmas.Grind.{flat_map-append}
+use Rattle.ep_size.proofs.Words.{◌≡◌, ℕ, ◌+◌, ◌<◌, ◌≤◌, Bool, length, true, false, List, [], ◌∷◌, ◌++◌, refl, sym, ap, subst, ◌∙◌, arith, nat_le, nat_lt, if◌then◌else◌, Option, Some, None, option_map, option_to_list, flat_map-append, Instance, Refusal, met_in, over_limit, Env, MOST_SIZE, MOST_WEIGHT, met, weight_of, put_all, cells_bound, instance_limits, instance_size, instance_weight, limits_passed, met_instance, or_weight, ExprTree, Mode, told_as, Walked, IsCause, IsTooMany, MeasuresInstance, Told, WeighsNodes, is_far, Celled, all_cells, all_values, capped, CellTotals, SizeError, Limit, Memory, Totals}
+use Rattle.std.specs.Prelude.{Contains}
 use Rattle.ep_base.specs.declared.operators.Limit.{Limit as LimitName}
 use Rattle.ep_size.proofs.RemainingSteps.{mapped_twice}
-use Rattle.ep_tree.specs.Binding.{Instance, Refusal, met_in, over_limit}
-use Rattle.ep_tree.specs.Environments.{Env}
-use Rattle.ep_tree.specs.Limits.{MOST_SIZE, MOST_WEIGHT}
-use Rattle.ep_tree.specs.Measures.{met, weight_of}
-use Rattle.ep_tree.specs.Names.{put_all}
-use Rattle.ep_tree.specs.Solutions.{cells_bound, instance_limits, instance_size, instance_weight, limits_passed, met_instance, or_weight}
-use Rattle.ep_tree.specs.Trees.{ExprTree}
-use Rattle.ep_tree.specs.declared.values.Mode.{Mode}
-use Rattle.ep_eval.proofs.MeterSteps.{told_as}
-use Rattle.ep_eval.specs.Meters.{Walked}
 use Rattle.ep_size.proofs.Measurings.{nothing_passed, passed_limits, size_refuses}
 use Rattle.ep_size.proofs.MeterSteps.{told_then}
-use Rattle.ep_size.specs.Causes.{IsCause, IsTooMany}
-use Rattle.ep_size.specs.Meters.{MeasuresInstance, Told, WeighsNodes, is_far}
-use Rattle.ep_size.specs.Totals.{Celled, all_cells, all_values, capped}
-use Rattle.ep_size.specs.declared.cells.CellTotals.{CellTotals}
-use Rattle.ep_size.specs.declared.errors.SizeError.{SizeError}
-use Rattle.ep_size.specs.declared.errors.SizeError.TheVariants.{Limit, Memory}
-use Rattle.ep_size.specs.declared.totals.Totals.{Totals}
 
 -- the names of an instance's clauses, and the expression of its objective
 abbrev pub env_within : Instance → Env

@@ -1,17 +1,8 @@
 -- How many some numbers are and how wide, with one number more; and what is told of sums and products.
-use Rattle.std.proofs.Common.{◌≡◌, ℕ, ◌+◌, ◌*◌, List, [], ◌∷◌, ◌++◌, length, ap, ◌∙◌, arith}
-use Rattle.std.proofs.lemmas.List.{length_push}
-use Rattle.std.proofs.lemmas.List.Sums.{sum_by_push}
-use Rattle.ep_base.specs.Intervals.{width}
-use Rattle.ep_tree.specs.Measures.{widths}
+use Rattle.ep_size.proofs.Words.{◌≡◌, ℕ, ◌+◌, ◌*◌, List, [], ◌∷◌, ◌++◌, length, ap, ◌∙◌, arith, length_push, sum_by_push, width, widths, plain_span, interval_of, capped, Widens, Widths}
 use Rattle.ep_tree.specs.Reach as defined
 use Rattle.ep_size.proofs.Caps.{product_kept}
-use Rattle.ep_size.specs.Extents.{plain_span}
-use Rattle.ep_numbers.specs.Spans.{interval_of}
-use Rattle.ep_size.specs.Totals.{capped}
-use Rattle.ep_size.specs.Widths.{Widens}
 use Rattle.ep_size.specs.declared.extents.Span.{Span}
-use Rattle.ep_size.specs.declared.widths.Widths.{Widths}
 
 -- one number more
 pub widens_more : (t u : Widths) (spans : List defined.Span) (s : Span) → Widens t spans → u.count ≡ capped (capped t.count + 1)

@@ -1,13 +1,6 @@
 -- The names of decision variables, put from the last to the first.
-use Rattle.std.proofs.Common.{◌≡◌, ℕ, ◌+◌, ◌<◌, List, [], length, drop, get_or, refl, sym, ap, ◌∙◌}
-use Rattle.std.specs.Prelude.{map}
-use Rattle.std.proofs.lemmas.List.{at_drop_more}
-use Rattle.ep_instance_parts.specs.Instances.{find_of}
+use Rattle.ep_unroll.proofs.Words.{◌≡◌, ℕ, ◌+◌, ◌<◌, List, [], length, drop, get_or, refl, sym, ap, ◌∙◌, map, at_drop_more, find_of, Env, has_cells, put, put_all, cells_bound, scalar_of}
 use Rattle.ep_instance_parts.specs.declared.instances.Find.{Find}
-use Rattle.ep_tree.specs.Environments.{Env, has_cells}
-use Rattle.ep_tree.specs.Names.{put, put_all}
-use Rattle.ep_tree.specs.Solutions.{cells_bound}
-use Rattle.ep_tree.specs.Types.{scalar_of}
 
 pub named_more : (finds : List Find) (k : ℕ) (f d : Find) (now next start : Env) → k < length finds → f ≡ get_or finds k d
     → now ≡ put_all (cells_bound (map find_of (drop (k + 1) finds))) start

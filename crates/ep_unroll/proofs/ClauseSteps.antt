@@ -1,27 +1,10 @@
 -- Clauses and the objective, one after another.
-use Rattle.std.proofs.Common.{◌≡◌, ℕ, suc, ◌+◌, ◌<◌, ◌≤◌, false, ℤ, List, [], ◌∷◌, ◌++◌, length, take, get_or, Some, None, refl, sym, ap, subst, ◌∙◌, arith}
-use Rattle.std.specs.Prelude.{Option, map, option_map, unwrap_or}
-use Rattle.std.specs.List.{All, AllZip}
-use Rattle.std.proofs.lemmas.List.{map-append, take_all, take_more}
-use Rattle.std.proofs.lemmas.List.Elements.{All-push}
-use Rattle.std.proofs.Math.Bool.{and-true}
-use Rattle.ep_base.specs.Numbers.{all_one, is_one, of_bool}
-use Rattle.ep_base.specs.Reads.{all_there}
+use Rattle.ep_unroll.proofs.Words.{◌≡◌, ℕ, suc, ◌+◌, ◌<◌, ◌≤◌, false, ℤ, List, [], ◌∷◌, ◌++◌, length, take, get_or, Some, None, refl, sym, ap, subst, ◌∙◌, arith, Option, map, option_map, unwrap_or, All, AllZip, map-append, take_all, take_more, All-push, and-true, all_one, is_one, of_bool, all_there, GroundNode, Env, evaluate, is_true_in, number_in, ExprTree, expr_tree, Expr, AreClauses, IsClauseTerm, Grows, Puts, IsNumberOf, Numbering}
 use Rattle.ep_ground.specs.Nodes as node
-use Rattle.ep_ground.specs.Nodes.{GroundNode}
 use Rattle.ep_ground.specs.Terms as ground
 use Rattle.ep_ground.specs.Terms.{node_value, term_value, truth as ground_truth}
-use Rattle.ep_tree.specs.Environments.{Env}
-use Rattle.ep_tree.specs.Evaluation.{evaluate, is_true_in, number_in}
-use Rattle.ep_tree.specs.Trees.{ExprTree}
-use Rattle.ep_tree.specs.Views.{expr_tree}
-use Rattle.ep_tree.specs.declared.syntax.Expr.{Expr}
 use Rattle.ep_unroll.proofs.FormValues.{grows_long, grows_on, grown_value, number_grown}
 use Rattle.ep_unroll.proofs.MeaningSteps.{grows_none}
-use Rattle.ep_unroll.specs.Clauses.{AreClauses, IsClauseTerm}
-use Rattle.ep_unroll.specs.Growing.{Grows, Puts}
-use Rattle.ep_unroll.specs.Meanings.{IsNumberOf}
-use Rattle.ep_unroll.specs.Readings.{Numbering}
 
 one_truth : (o : Option ℤ) → ground_truth (option_map all_one (all_there (o ∷ []))) ≡ Some (of_bool (unwrap_or (option_map is_one o) false))
 unfolding ground_truth all_there all_one of_bool

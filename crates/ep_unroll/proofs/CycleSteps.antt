@@ -1,35 +1,9 @@
 -- Steps of unrolling: brackets, parts one after another, and the instances of a quantifier.
-use Rattle.std.proofs.Common.{◌≡◌, ℕ, ◌+◌, ◌<◌, ◌≤◌, Bool, true, false, ℤ, List, [], ◌∷◌, ◌++◌, length, drop, get_or, Some, None, refl, sym, ap, ◌∙◌, arith}
-use Rattle.std.specs.Prelude.{Option, map, bytes_eq, if◌then◌else◌, ◌*ℤ◌, option_map, pos, negsuc, neg_ℤ}
-use Rattle.std.proofs.lemmas.Int.{ints}
-use Rattle.std.proofs.lemmas.List.{at_drop_all, at_drop_more}
-use Rattle.ep_base.specs.declared.names.Name.{Name}
-use Rattle.ep_base.specs.declared.places.Place.{Place}
-use Rattle.ep_ground.specs.Nodes.{GroundNode}
-use Rattle.ep_ground.specs.Terms.{term_value}
-use Rattle.ep_tree.proofs.EvaluationEquations.{evaluate-group, evaluate-to_int}
-use Rattle.ep_tree.specs.Environments.{Env, has_value, scalar_in, with_number}
-use Rattle.ep_tree.specs.Evaluation.{evaluate, number_in, signed, term_values, values_of}
-use Rattle.ep_tree.specs.Trees.{ExprTree, group, to_int}
-use Rattle.ep_tree.specs.TypedValues.{is_number_of}
-use Rattle.ep_tree.specs.Types.{of_scalar}
-use Rattle.ep_tree.specs.Values.{single}
-use Rattle.ep_tree.specs.Views.{domain_tree, expr_tree, expr_trees, terms_of}
-use Rattle.ep_tree.specs.declared.syntax.Expr.{Expr}
-use Rattle.ep_tree.specs.declared.values.Scalar.{Scalar}
-use Rattle.ep_eval.proofs.Instances.{quantified_bare}
-use Rattle.ep_eval.specs.Instances.{instance_value}
-use Rattle.ep_forms.specs.Forms.{quantified_tree}
-use Rattle.ep_forms.specs.declared.forms.Quantifier.{Quantifier}
+use Rattle.ep_unroll.proofs.Words.{◌≡◌, ℕ, ◌+◌, ◌<◌, ◌≤◌, Bool, true, false, ℤ, List, [], ◌∷◌, ◌++◌, length, drop, get_or, Some, None, refl, sym, ap, ◌∙◌, arith, Option, map, bytes_eq, if◌then◌else◌, ◌*ℤ◌, option_map, pos, negsuc, neg_ℤ, ints, at_drop_all, at_drop_more, Name, Place, GroundNode, term_value, evaluate-group, evaluate-to_int, Env, has_value, scalar_in, with_number, evaluate, number_in, signed, term_values, values_of, ExprTree, group, to_int, is_number_of, of_scalar, single, domain_tree, expr_tree, expr_trees, terms_of, Expr, Scalar, quantified_bare, instance_value, quantified_tree, Quantifier, Grows, AreInstancesOf, AreNumbersOf, IsNumberOf, Means, Numbering, Reading, ReadsName, AreSigned, sign_number, Unrolled}
 use Rattle.ep_unroll.proofs.FormValues.{grows_on}
 use Rattle.ep_unroll.proofs.FreeValues.{agreed_put, scalar_kept}
 use Rattle.ep_unroll.proofs.MeaningSteps.{Listing, listing_begins, listing_ends, listing_more}
 use Rattle.ep_unroll.proofs.TypedReadings.{number_typed}
-use Rattle.ep_unroll.specs.Growing.{Grows}
-use Rattle.ep_unroll.specs.Meanings.{AreInstancesOf, AreNumbersOf, IsNumberOf, Means}
-use Rattle.ep_unroll.specs.Readings.{Numbering, Reading, ReadsName}
-use Rattle.ep_unroll.specs.Signed.{AreSigned, sign_number}
-use Rattle.ep_unroll.specs.declared.unrolled.Unrolled.{Unrolled}
 
 -- brackets change nothing
 pub group_means : (n : Numbering) (cells : Env) (old new : List GroundNode) (p : Place) (e : ExprTree) (x : Unrolled) → Means n cells old new e x → Means n cells old new (group p e) x

@@ -1,29 +1,10 @@
 -- The scalars among which a read of what was unrolled chooses, one part after another.
-use Rattle.std.proofs.Common.{◌≡◌, ℕ, suc, ◌<◌, ◌≤◌, ℤ, Bool, true, false, List, [], ◌∷◌, ◌++◌, length, Some, None, refl, sym, ap, subst, ◌∙◌, arith}
-use Rattle.std.specs.Prelude.{Option, is_some, map, option_and_then, option_map, if◌then◌else◌}
-use Rattle.std.specs.List.{All}
+use Rattle.ep_unroll.proofs.Words.{◌≡◌, ℕ, suc, ◌<◌, ◌≤◌, ℤ, Bool, true, false, List, [], ◌∷◌, ◌++◌, length, Some, None, refl, sym, ap, subst, ◌∙◌, arith, Option, is_some, map, option_and_then, option_map, if◌then◌else◌, All, int_eq, map_is, no_some, some_is, IsAscending, read_stated, part_under, GroundNode, term_value, number_in, Index, ValueTree, all_defined, as_parts, at_index, matrix, part_at, read_value, single, AreTerms, worth, HasNumber, HaveTerms, worths, part_with, parts_worth, AreEntries, AreRead, Slot, At, Open, Unrolled, Matrix}
 use Rattle.std.specs.declared.alloc.Global.{Global}
 use Rattle.std.specs.declared.vec.Vec.{Vec}
-use Rattle.std.specs.Ordering.{int_eq}
-use Rattle.ep_base.proofs.Small.{map_is, no_some, some_is}
-use Rattle.ep_base.specs.Runs.{IsAscending}
-use Rattle.ep_eval.proofs.ReadSteps.{read_stated}
-use Rattle.ep_eval.specs.Reading.{part_under}
-use Rattle.ep_ground.specs.Nodes.{GroundNode}
-use Rattle.ep_ground.specs.Terms.{term_value}
-use Rattle.ep_tree.specs.Evaluation.{number_in}
-use Rattle.ep_tree.specs.Values.{Index, ValueTree, all_defined, as_parts, at_index, matrix, part_at, read_value, single}
 use Rattle.ep_unroll.proofs.FormSteps.{one_known}
 use Rattle.ep_unroll.proofs.GrownParts.{matrix_terms, matrix_worth, terms_kept, worth_kept}
 use Rattle.ep_unroll.proofs.PickSteps.{EachSoFar, each_begin, each_done, each_more, entries_at, entries_none, entries_not_at, one_read}
-use Rattle.ep_unroll.specs.Meanings.{AreTerms, worth}
-use Rattle.ep_unroll.specs.Numbers.{HasNumber}
-use Rattle.ep_unroll.specs.PartLists.{HaveTerms, worths}
-use Rattle.ep_unroll.specs.PartReads.{part_with, parts_worth}
-use Rattle.ep_unroll.specs.Picks.{AreEntries, AreRead}
-use Rattle.ep_unroll.specs.declared.slots.Slot.{Slot}
-use Rattle.ep_unroll.specs.declared.slots.Slot.TheVariants.{At, Open}
-use Rattle.ep_unroll.specs.declared.unrolled.Unrolled.{Unrolled, Matrix}
 
 -- ---- the part with an index
 

@@ -1,10 +1,5 @@
 -- The first cell of a name, one decision variable after another.
-use Rattle.std.proofs.Common.{◌≡◌, ℕ, ◌+◌, ◌<◌, ◌≤◌, List, length, drop, get_or, Some, None, sym, ap, ◌∙◌}
-use Rattle.std.specs.Prelude.{bytes_eq, if◌then◌else◌}
-use Rattle.std.proofs.lemmas.List.{at_drop_all, at_drop_more}
-use Rattle.ep_base.specs.declared.names.Name.{Name}
-use Rattle.ep_unroll.specs.Firsts.{first_in}
-use Rattle.ep_unroll.specs.declared.firsts.FirstCell.{FirstCell}
+use Rattle.ep_unroll.proofs.Words.{◌≡◌, ℕ, ◌+◌, ◌<◌, ◌≤◌, List, length, drop, get_or, Some, None, sym, ap, ◌∙◌, bytes_eq, if◌then◌else◌, at_drop_all, at_drop_more, Name, first_in, FirstCell}
 
 pub firsts_more : (name : Name) (fs : List FirstCell) (k : ℕ) (f d : FirstCell) → k < length fs → f ≡ get_or fs k d
     → first_in (drop k fs) name ≡ (if bytes_eq name f.name then Some f.cell else first_in (drop (k + 1) fs) name)

@@ -1,31 +1,12 @@
 -- Scalars, each unrolled by itself, put behind others one after another.
-use Rattle.std.proofs.Common.{◌≡◌, ℕ, suc, ◌+◌, ◌-◌, ◌<◌, ◌≤◌, ℤ, pos, List, [], ◌∷◌, ◌++◌, length, drop, get_or, Some, None, Ok, Err, refl, sym, ap, subst, ◌∙◌, arith, slice_get, append_assoc}
-use Rattle.std.specs.Prelude.{OnOk, Option, Result, map, option_map}
+use Rattle.ep_unroll.proofs.Words.{◌≡◌, ℕ, suc, ◌+◌, ◌-◌, ◌<◌, ◌≤◌, ℤ, pos, List, [], ◌∷◌, ◌++◌, length, drop, get_or, Some, None, Ok, Err, refl, sym, ap, subst, ◌∙◌, arith, slice_get, append_assoc, OnOk, Option, Result, map, option_map, append-nil, drop_more, length-map, map-append, all_there, counting, Place, held_value, GroundNode, term_value, evaluate-flatten, Env, number_in, scalars_in, ExprTree, flatten, all_defined, as_parts, list_value, matrix, scalars_of, scalars_of_all, single, AddsParts, AreTerms, Means, worth, HaveTerms, worths, Numbering, cells_value, cells_from, Unrolled, Fixed, Matrix, Number}
 use Rattle.std.specs.declared.alloc.Global.{Global}
 use Rattle.std.specs.declared.vec.Vec.{Vec}
-use Rattle.std.proofs.lemmas.List.{append-nil, drop_more, length-map, map-append}
-use Rattle.ep_base.specs.Reads.{all_there}
-use Rattle.ep_base.specs.Runs.{counting}
-use Rattle.ep_base.specs.declared.places.Place.{Place}
-use Rattle.ep_eval.specs.Helds.{held_value}
 use Rattle.ep_eval.specs.declared.held.Held.TheVariants as held
-use Rattle.ep_ground.specs.Nodes.{GroundNode}
-use Rattle.ep_ground.specs.Terms.{term_value}
-use Rattle.ep_tree.proofs.EvaluationEquations.{evaluate-flatten}
-use Rattle.ep_tree.specs.Environments.{Env}
-use Rattle.ep_tree.specs.Evaluation.{number_in, scalars_in}
-use Rattle.ep_tree.specs.Trees.{ExprTree, flatten}
-use Rattle.ep_tree.specs.Values.{all_defined, as_parts, list_value, matrix, scalars_of, scalars_of_all, single}
 use Rattle.ep_unroll.proofs.FormValues.{there_defined}
 use Rattle.ep_unroll.proofs.GrownParts.{have_both, have_one, matrix_terms, matrix_worth}
 use Rattle.ep_unroll.proofs.MatrixSteps.{each_cut, joined, scalars_each, there_cut, whole_scalars}
 use Rattle.ep_unroll.proofs.PartListSteps.{defined_long}
-use Rattle.ep_unroll.specs.Flats.{AddsParts}
-use Rattle.ep_unroll.specs.Meanings.{AreTerms, Means, worth}
-use Rattle.ep_unroll.specs.PartLists.{HaveTerms, worths}
-use Rattle.ep_unroll.specs.Readings.{Numbering, cells_value}
-use Rattle.ep_unroll.specs.Scalars.{cells_from}
-use Rattle.ep_unroll.specs.declared.unrolled.Unrolled.{Unrolled, Fixed, Matrix, Number}
 
 -- scalars by nodes and by the numbers of the cells
 abbrev pub Scalars : Type 0

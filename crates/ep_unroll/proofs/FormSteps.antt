@@ -1,6 +1,5 @@
 -- The parts of a node that is taken in are known.
-use Rattle.std.proofs.Common.{ℕ, zero, suc, ◌<◌, [], ◌∷◌, arith}
-use Rattle.std.specs.List.{All}
+use Rattle.ep_unroll.proofs.Words.{ℕ, zero, suc, ◌<◌, [], ◌∷◌, arith, All}
 
 pub none_known : (n : ℕ) → All (λ part. part < n) []
 none_known n k d less = absurd (no_less less)

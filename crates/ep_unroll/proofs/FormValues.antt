@@ -1,35 +1,11 @@
 -- The terms of forms whose parts are numbers.
-use Rattle.std.proofs.Common.{◌≡◌, ℕ, suc, ◌+◌, ◌<◌, ◌≤◌, Bool, true, false, ℤ, pos, negsuc, List, [], ◌∷◌, ◌++◌, length, Some, None, refl, sym, ap, subst, ◌∙◌, arith, Ok, Err, append_assoc}
-use Rattle.std.specs.Prelude.{Option, Result, IfOk, IsSome, is_some, map, not, ◌||◌, ◌*ℤ◌, ◌+ℤ◌, neg_ℤ, option_map, option_and_then}
-use Rattle.std.specs.List.{All}
-use Rattle.std.proofs.lemmas.Int.{ints}
-use Rattle.std.proofs.lemmas.List.{length-append}
+use Rattle.ep_unroll.proofs.Words.{◌≡◌, ℕ, suc, ◌+◌, ◌<◌, ◌≤◌, Bool, true, false, ℤ, pos, negsuc, List, [], ◌∷◌, ◌++◌, length, Some, None, refl, sym, ap, subst, ◌∙◌, arith, Ok, Err, append_assoc, Option, Result, IfOk, IsSome, is_some, map, not, ◌||◌, ◌*ℤ◌, ◌+ℤ◌, neg_ℤ, option_map, option_and_then, All, ints, length-append, absolute_of, all_one, any_one, compare_holds, greatest_of, has_number, is_one, least_of, of_bool, sum_of, map_both, on_both, all_there, weighted_sum, CompareOp, Place, value_more, GroundNode, evaluate-absolute, evaluate-all_of, evaluate-any_of, evaluate-binary, evaluate-compare, evaluate-in_domain, evaluate-minus, evaluate-negation, Env, all_numbers, all_true, any_true, binary_number, binary_value, domain_values, joins_truths, undefined_truth, evaluate, number_in, number_value, truth_in, values_of, DomainTree, ExprTree, ExprTrees, absolute, binary, compare, in_domain, minus, negation, ValueTree, all_defined, single, BinaryOp, Mode, Grows, Puts, AreNumbersOf, IsNumberOf, IsTermOf, ArePartial, HasNumber, numbers_of_terms, only_where, Numbering, Reading, IsJudged, needed_in}
 use Rattle.ep_base.specs.Numbers as numbers
-use Rattle.ep_base.specs.Numbers.{absolute_of, all_one, any_one, compare_holds, greatest_of, has_number, is_one, least_of, of_bool, sum_of}
-use Rattle.ep_base.specs.Options.{map_both, on_both}
-use Rattle.ep_base.specs.Reads.{all_there, weighted_sum}
-use Rattle.ep_base.specs.declared.operators.CompareOp.{CompareOp}
-use Rattle.ep_base.specs.declared.places.Place.{Place}
-use Rattle.ep_ground.proofs.TermLaws.{value_more}
 use Rattle.ep_ground.specs.Nodes as node
-use Rattle.ep_ground.specs.Nodes.{GroundNode}
 use Rattle.ep_ground.specs.Terms as ground
 use Rattle.ep_ground.specs.Terms.{node_value, term_value, weighed, truth as ground_truth}
-use Rattle.ep_tree.proofs.EvaluationEquations.{evaluate-absolute, evaluate-all_of, evaluate-any_of, evaluate-binary, evaluate-compare, evaluate-in_domain, evaluate-minus, evaluate-negation}
-use Rattle.ep_tree.specs.Environments.{Env}
-use Rattle.ep_tree.specs.Evaluation.{all_numbers, all_true, any_true, binary_number, binary_value, domain_values, joins_truths, undefined_truth, evaluate, number_in, number_value, truth_in, values_of}
-use Rattle.ep_tree.specs.Trees.{DomainTree, ExprTree, ExprTrees, absolute, all_of, any_of, binary, compare, in_domain, minus, negation}
-use Rattle.ep_tree.specs.Values.{ValueTree, all_defined, single}
-use Rattle.ep_tree.specs.declared.syntax.BinaryOp.{BinaryOp}
-use Rattle.ep_tree.specs.declared.values.Mode.{Mode}
+use Rattle.ep_tree.specs.Trees.{all_of, any_of}
 use Rattle.ep_unroll.proofs.TruthSteps.{IsToldBy, list_there, one_there, told_both, told_value, two_there, untold}
-use Rattle.ep_unroll.specs.Growing.{Grows, Puts}
-use Rattle.ep_unroll.specs.Meanings.{AreNumbersOf, IsNumberOf, IsTermOf}
-use Rattle.ep_unroll.specs.Needs.{ArePartial}
-use Rattle.ep_unroll.specs.Numbers.{HasNumber}
-use Rattle.ep_unroll.specs.PartReads.{numbers_of_terms, only_where}
-use Rattle.ep_unroll.specs.Readings.{Numbering, Reading}
-use Rattle.ep_unroll.specs.Truths.{IsJudged, needed_in}
 
 -- ---- nodes that grow
 

@@ -1,24 +1,7 @@
 -- Values that fit make a reading of the cells.
-use Rattle.std.proofs.Common.{◌≡◌, ℕ, suc, ◌+◌, ◌*◌, Bool, true, false, ℤ, List, [], ◌∷◌, ◌++◌, length, Some, None, refl, sym, ap, subst, ◌∙◌, arith, slice_get, append_assoc}
-use Rattle.std.specs.Prelude.{Option, bytes_eq, if◌then◌else◌, ◌&&◌, ◌==◌, option_map, sum_by}
-use Rattle.std.proofs.lemmas.List.{append-nil, length-append}
-use Rattle.std.proofs.lemmas.List.Sums.{sum_by-cons}
-use Rattle.ep_base.proofs.Small.{map_is, no_some, some_is, then_is}
-use Rattle.ep_base.specs.Numbers.{has_number}
-use Rattle.ep_base.specs.declared.names.Name.{Name}
-use Rattle.ep_tree.specs.Binding.{Find, Instance}
-use Rattle.ep_tree.specs.Closed.{IsClosed, clause_env}
-use Rattle.ep_tree.specs.Environments.{Bound, Env, has_cells, has_domain, has_value, shape_type}
-use Rattle.ep_tree.specs.Names.{put_all}
-use Rattle.ep_tree.specs.Reach.{decisions_in, is_decision}
-use Rattle.ep_tree.specs.Solutions.{Assigned, Fits, Found, cell_count, cells_bound, found_values, under}
-use Rattle.ep_tree.specs.Values.{ValueTree, ValueTrees, all_defined, all_fitted, as_parts, fitted, matrix, no_values, scalar_fits, scalars_of, scalars_of_all, single, value_and, with_indices}
-use Rattle.ep_tree.specs.declared.values.Scalar.{Scalar}
-use Rattle.ep_tree.specs.declared.values.Mode.{Mode}
-use Rattle.ep_reach_laws.proofs.Found.{found_alike, taken_from}
-use Rattle.ep_unroll.specs.Cells.{bound_numbers, found_numbers}
-use Rattle.ep_unroll.specs.Firsts.{first_of, numbering}
-use Rattle.ep_unroll.specs.Readings.{Reading, ReadsName, cells_value, each_from}
+use Rattle.ep_unroll.proofs.Words.{◌≡◌, ℕ, suc, ◌+◌, ◌*◌, Bool, true, false, ℤ, List, [], ◌∷◌, ◌++◌, length, Some, None, refl, sym, ap, subst, ◌∙◌, arith, slice_get, append_assoc, Option, bytes_eq, if◌then◌else◌, ◌&&◌, ◌==◌, option_map, sum_by, append-nil, length-append, sum_by-cons, map_is, no_some, some_is, then_is, has_number, Name, Instance, IsClosed, clause_env, Bound, Env, has_cells, has_domain, has_value, shape_type, put_all, decisions_in, is_decision, Assigned, Fits, Found, cell_count, cells_bound, found_values, under, ValueTree, ValueTrees, all_defined, all_fitted, as_parts, fitted, matrix, no_values, scalar_fits, scalars_of, scalars_of_all, single, value_and, with_indices, Scalar, Mode, found_alike, taken_from, bound_numbers, found_numbers, numbering, Reading, ReadsName, cells_value, each_from}
+use Rattle.ep_tree.specs.Binding.{Find}
+use Rattle.ep_unroll.specs.Firsts.{first_of}
 
 -- ---- a value over index domains, by the numbers of its cells
 

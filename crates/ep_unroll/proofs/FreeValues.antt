@@ -1,27 +1,6 @@
 -- What no decision variable stands in has one value, whether decision variables have cells or values.
-use Rattle.std.specs.Prelude.{◌≡◌, ℕ, Bool, true, false, not, ◌&&◌, ◌||◌, List, [], ◌∷◌, ◌++◌, flat_map, is_some, map, length, ℤ, neg_ℤ, if◌then◌else◌, Some, None, bytes_eq, Option, unwrap_or, option_map, option_and_then, refl}
-use Rattle.std.proofs.Common.{ap, subst, sym, ◌∙◌}
-use Rattle.std.proofs.Math.Path.{fun_ext}
-use Rattle.std.proofs.lemmas.List.{append-nil}
-use Rattle.std.specs.List.{list_any}
-use Rattle.ep_base.specs.Numbers.{absolute_of, compare_holds, factorial_of, has_number, lex_holds, are_different, counts_hold, is_row_of, sum_of}
-use Rattle.ep_base.specs.Options.{map_both, on_both, on_three}
-use Rattle.ep_base.specs.declared.operators.CompareOp.{CompareOp}
-use Rattle.ep_base.specs.declared.names.Name.{Name}
-use Rattle.ep_size.proofs.FreeParts.{and_one, and_other, not_true}
-use Rattle.ep_tree_laws.proofs.SameTypes.{domain_type_is_kept, type_is_kept}
-use Rattle.ep_size.specs.Free.{are_free, are_free_domains, are_free_generators, are_free_indices, are_free_ranges, are_free_terms, is_free, is_free_domain, is_free_end, is_free_index}
-use Rattle.ep_tree.specs.Agreement.{Agree, AgreeOn}
-use Rattle.ep_tree.specs.Domains.{between, put_in, set_values, united}
-use Rattle.ep_tree.specs.Environments.{Bound, Env, domain_bound, has_cells, has_domain, has_value, scalar_in, value_bound, with_number}
-use Rattle.ep_tree.specs.Evaluation.{all_hold, all_joined, all_true, any_true, are_told, binary_value, domain_values, domains_defined, end_value, evaluate, folded_value, holding, index_list, index_values, matrix_value, number_in, number_value, over_names, quantified_value, range_values, reached, read_result, rows_in, scalars_in, signed, standing_for, term_values, truth_in, truth_of, type_in, values_of}
-use Rattle.ep_tree.specs.Reach.{decisions_in, generator_names, hiding, is_decision}
-use Rattle.ep_tree.specs.Trees.{DomainTree, End, ExprTree, ExprTrees, Generators, IndexDomain, Indices, Ranges, Terms, absolute, all_different, all_of, any_of, at_least, at_most, binary, bool, chain, compare, comprehension, end_at, every_and, factorial, flatten, folded, gcc, generator_and, group, group_domain, in_domain, in_set, index_and, int, lex, literal, matrix_domain, minus, named, named_domain, negation, no_end, no_generators, no_indices, no_ranges, no_terms, no_trees, number, one_and, over, quantified, ranges, read, set_domain, span_and, table, term_and, to_int, tree_and, truth, unstated}
-use Rattle.ep_tree.specs.Types.{of_scalar, scalar_of, type_from}
-use Rattle.ep_tree.specs.Values.{ValueTree, any_index, at_index, list_value, read_value, single, all_defined, with_indices}
-use Rattle.ep_tree.specs.declared.values.Mode.{Mode}
-use Rattle.ep_tree.specs.declared.values.Scalar.{Scalar}
-use Rattle.ep_tree.specs.declared.values.ValueType.{ValueType}
+use Rattle.ep_unroll.proofs.Words.{◌≡◌, ℕ, Bool, true, false, not, ◌&&◌, ◌||◌, List, [], ◌∷◌, ◌++◌, flat_map, is_some, map, length, ℤ, neg_ℤ, if◌then◌else◌, Some, None, bytes_eq, Option, unwrap_or, option_map, option_and_then, refl, ap, subst, sym, ◌∙◌, fun_ext, append-nil, list_any, absolute_of, compare_holds, factorial_of, has_number, lex_holds, are_different, counts_hold, is_row_of, sum_of, map_both, on_both, on_three, CompareOp, Name, and_one, and_other, not_true, domain_type_is_kept, type_is_kept, are_free, are_free_domains, are_free_generators, are_free_indices, are_free_ranges, are_free_terms, is_free, is_free_domain, is_free_end, is_free_index, Agree, AgreeOn, between, put_in, set_values, united, Bound, Env, domain_bound, has_cells, has_domain, has_value, scalar_in, value_bound, with_number, all_hold, all_joined, all_true, any_true, are_told, binary_value, domain_values, domains_defined, end_value, evaluate, folded_value, holding, index_list, index_values, matrix_value, number_in, number_value, over_names, quantified_value, range_values, reached, read_result, rows_in, scalars_in, signed, standing_for, term_values, truth_in, truth_of, type_in, values_of, decisions_in, generator_names, hiding, is_decision, DomainTree, End, ExprTree, ExprTrees, Generators, IndexDomain, Indices, Ranges, Terms, absolute, all_different, at_least, at_most, binary, bool, chain, compare, comprehension, end_at, every_and, factorial, flatten, folded, gcc, generator_and, group, group_domain, in_domain, in_set, index_and, int, lex, literal, matrix_domain, minus, named, named_domain, negation, no_end, no_generators, no_indices, no_ranges, no_terms, no_trees, number, one_and, over, quantified, ranges, read, set_domain, span_and, table, term_and, to_int, tree_and, unstated, of_scalar, scalar_of, type_from, ValueTree, any_index, at_index, list_value, read_value, single, all_defined, with_indices, Mode, Scalar, ValueType}
+use Rattle.ep_tree.specs.Trees.{all_of, any_of, truth}
 
 -- `a && b && c` groups to the left
 first_of_three : (a b c : Bool) → ((a && b) && c) ≡ true → a ≡ true

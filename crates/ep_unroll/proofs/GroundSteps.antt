@@ -1,28 +1,7 @@
 -- A ground made of its clauses and its objective, and what it says of an instance.
-use Rattle.std.proofs.Common.{◌≡◌, ℕ, List, Some, None, refl, ap, subst, ◌∙◌}
-use Rattle.std.specs.Prelude.{Option, option_and_then, option_map}
-use Rattle.std.specs.List.{AllZip}
-use Rattle.ep_base.specs.Numbers.{of_bool}
-use Rattle.ep_base.specs.declared.operators.Sense.{Sense}
-use Rattle.ep_ground.specs.Grounds.{GroundState, ground_objective}
-use Rattle.ep_ground.specs.Nodes.{GroundNode}
-use Rattle.ep_ground.specs.Terms.{term_value}
-use Rattle.ep_ground.specs.declared.cells.Cell.{Cell}
-use Rattle.ep_tree.specs.Binding.{Instance}
-use Rattle.ep_tree.specs.Closed.{IsClosed, clause_env}
-use Rattle.ep_tree.specs.Environments.{Env}
-use Rattle.ep_tree.specs.Evaluation.{evaluate, is_true_in, number_in}
-use Rattle.ep_tree.specs.Solutions.{goal_value}
-use Rattle.ep_tree.specs.Trees.{ExprTree}
-use Rattle.ep_tree.specs.declared.values.Mode.{Mode}
+use Rattle.ep_unroll.proofs.Words.{◌≡◌, ℕ, List, Some, None, refl, ap, subst, ◌∙◌, Option, option_and_then, option_map, AllZip, of_bool, Sense, GroundState, ground_objective, GroundNode, term_value, Cell, Instance, IsClosed, clause_env, Env, evaluate, is_true_in, number_in, goal_value, ExprTree, Mode, AreClauses, IsGoal, numbering, IsGroundOf, Grows, Numbering, Reading, SaysClauses, SaysObjective}
 use Rattle.ep_unroll.proofs.ClauseSteps.{zip_kept}
 use Rattle.ep_unroll.proofs.FoundReadings.{found_reading}
-use Rattle.ep_unroll.specs.Clauses.{AreClauses, IsGoal}
-use Rattle.ep_unroll.specs.Firsts.{numbering}
-use Rattle.ep_unroll.specs.Grounds.{IsGroundOf}
-use Rattle.ep_unroll.specs.Growing.{Grows}
-use Rattle.ep_unroll.specs.Readings.{Numbering, Reading}
-use Rattle.ep_unroll.specs.Unrolling.{SaysClauses, SaysObjective}
 
 goal_grows : (n : Numbering) (env : Env) (old new : List GroundNode) (goal : Option (Sense × ExprTree)) (t : Option (Sense × ℕ)) → IsGoal n env old new goal t → Grows old new
 unfolding IsGoal

@@ -1,16 +1,8 @@
 -- Parts that were unrolled keep their values while nodes are added.
-use Rattle.std.proofs.Common.{◌≡◌, ℕ, zero, suc, ◌<◌, ℤ, List, [], ◌∷◌, ◌++◌, length, get_or, Some, None, refl, sym, ap, subst, ◌∙◌, arith}
-use Rattle.std.specs.Prelude.{Option, option_map}
+use Rattle.ep_unroll.proofs.Words.{◌≡◌, ℕ, zero, suc, ◌<◌, ℤ, List, [], ◌∷◌, ◌++◌, length, get_or, Some, None, refl, sym, ap, subst, ◌∙◌, arith, Option, option_map, GroundNode, all_defined, as_parts, matrix, single, Grows, AreTerms, RowHasTerms, row_worths, worth, HaveTerms, worths, Unrolled, Number, Cells, Fixed, Matrix, Matrix', Row_of-Unrolled, end_of-Unrolled, more_of-Unrolled, items-the_row-Unrolled, items_hidden-the_row-Unrolled-0, hidden-the_row-Unrolled-0}
 use Rattle.std.specs.declared.alloc.Global.{Global}
 use Rattle.std.specs.declared.vec.Vec.{Vec}
-use Rattle.ep_ground.specs.Nodes.{GroundNode}
-use Rattle.ep_tree.specs.Values.{all_defined, as_parts, matrix, single}
 use Rattle.ep_unroll.proofs.FormValues.{grown_value, grows_long}
-use Rattle.ep_unroll.specs.Growing.{Grows}
-use Rattle.ep_unroll.specs.Meanings.{AreTerms, RowHasTerms, row_worths, worth}
-use Rattle.ep_unroll.specs.PartLists.{HaveTerms, worths}
-use Rattle.ep_unroll.specs.declared.unrolled.Unrolled.{Unrolled, Number, Cells, Fixed, Matrix, Matrix', Row_of-Unrolled, end_of-Unrolled, more_of-Unrolled, items-the_row-Unrolled, items_hidden-the_row-Unrolled-0}
-use Rattle.ep_unroll.specs.declared.unrolled.Unrolled.TheBlock.{hidden-the_row-Unrolled-0}
 
 mutual
   unfolding worth AreTerms RowHasTerms row_worths

@@ -1,28 +1,10 @@
 -- What indices leave of what was unrolled, one part after another.
-use Rattle.std.proofs.Common.{◌≡◌, ℕ, ℤ, false, List, [], ◌∷◌, ◌++◌, Some, None, refl, sym, ap, subst, ◌∙◌, append_assoc, slice_get}
-use Rattle.std.specs.Prelude.{Option, is_some, map, option_and_then, option_map}
-use Rattle.std.proofs.lemmas.List.{append-nil, map-append}
+use Rattle.ep_unroll.proofs.Words.{◌≡◌, ℕ, ℤ, false, List, [], ◌∷◌, ◌++◌, Some, None, refl, sym, ap, subst, ◌∙◌, append_assoc, slice_get, Option, is_some, map, option_and_then, option_map, append-nil, map-append, map_is, no_some, some_is, values_from-map, seen_held, Held, GroundNode, term_value, Index, ValueTree, all_defined, any_index, as_parts, at_index, listed_values, matrix, read_value, single, value_tree, values_from, Value, IsWorth, IsLeft, AreTerms, worth, HaveTerms, worths, part_with, parts_worth, cells_value, Unrolled, Cells, Fixed, Matrix, Matrix', Number}
 use Rattle.std.specs.declared.alloc.Global.{Global}
 use Rattle.std.specs.declared.vec.Vec.{Vec}
-use Rattle.ep_base.proofs.Small.{map_is, no_some, some_is}
-use Rattle.ep_eval.proofs.Lists.{values_from-map}
-use Rattle.ep_eval.specs.Helds.{seen_held}
-use Rattle.ep_eval.specs.declared.held.Held.{Held}
-use Rattle.ep_ground.specs.Nodes.{GroundNode}
-use Rattle.ep_ground.specs.Terms.{term_value}
-use Rattle.ep_tree.specs.Values.{Index, ValueTree, all_defined, any_index, as_parts, at_index, listed_values, matrix, read_value, single}
-use Rattle.ep_tree.specs.Views.{value_tree, values_from}
-use Rattle.ep_tree.specs.declared.values.Value.{Value}
 use Rattle.ep_unroll.proofs.EntrySteps.{defined_first, no_part, opened_parts, part_leads, part_misses}
 use Rattle.ep_unroll.proofs.GrownParts.{have_both, have_one, matrix_worth, terms_matrix}
 use Rattle.ep_unroll.proofs.PartSteps.{is_worth}
-use Rattle.ep_unroll.specs.Blocks.{IsWorth}
-use Rattle.ep_unroll.specs.Lefts.{IsLeft}
-use Rattle.ep_unroll.specs.Meanings.{AreTerms, worth}
-use Rattle.ep_unroll.specs.PartLists.{HaveTerms, worths}
-use Rattle.ep_unroll.specs.PartReads.{part_with, parts_worth}
-use Rattle.ep_unroll.specs.Readings.{cells_value}
-use Rattle.ep_unroll.specs.declared.unrolled.Unrolled.{Unrolled, Cells, Fixed, Matrix, Matrix', Number}
 
 -- ---- a number, which has no part
 

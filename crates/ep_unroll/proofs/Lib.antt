@@ -38,3 +38,4 @@ pub mod TruthSteps
 pub mod TypedReadings
 pub mod Vectors
 pub mod WholeSteps
+mod Words

@@ -1,33 +1,11 @@
 -- Forms whose parts are lists, by what their nodes are worth.
-use Rattle.std.proofs.Common.{◌≡◌, ℕ, Bool, true, false, ℤ, List, ◌++◌, length, Some, None, refl, sym, ap, ◌∙◌}
-use Rattle.std.specs.Prelude.{Option, is_some, map, option_and_then, ◌==◌}
-use Rattle.std.specs.List.{list_all}
-use Rattle.std.proofs.lemmas.List.{map-append}
-use Rattle.ep_base.specs.Numbers.{counts_hold, is_row_of, lex_holds}
-use Rattle.ep_base.specs.Options.{on_both, on_three}
-use Rattle.ep_base.specs.Reads.{all_there}
-use Rattle.ep_base.specs.declared.operators.CompareOp.{CompareOp}
-use Rattle.ep_base.specs.declared.operators.LexOp.{LexOp}
-use Rattle.ep_base.specs.declared.places.Place.{Place}
+use Rattle.ep_unroll.proofs.Words.{◌≡◌, ℕ, Bool, true, false, ℤ, List, ◌++◌, length, Some, None, refl, sym, ap, ◌∙◌, Option, is_some, map, option_and_then, ◌==◌, list_all, map-append, counts_hold, is_row_of, lex_holds, on_both, on_three, all_there, CompareOp, LexOp, Place, GroundNode, node_value, term_value, evaluate-at_least, evaluate-at_most, evaluate-gcc, evaluate-lex, evaluate-table, Env, evaluate, number_in, rows_in, scalars_in, truth_in, undefined_truth, ExprTree, at_least, at_most, gcc, lex, table, Mode, Grows, IsTermOf, ArePartial, HasNumber, Numbering, Reading, AreScalarsOf, IsJudged, needed_in}
 use Rattle.ep_ground.specs.Nodes as node
-use Rattle.ep_ground.specs.Nodes.{GroundNode}
 use Rattle.ep_ground.specs.Terms as ground
-use Rattle.ep_ground.specs.Terms.{node_value, term_value, truth}
-use Rattle.ep_tree.proofs.EvaluationEquations.{evaluate-at_least, evaluate-at_most, evaluate-gcc, evaluate-lex, evaluate-table}
-use Rattle.ep_tree.specs.Environments.{Env}
-use Rattle.ep_tree.specs.Evaluation.{evaluate, number_in, rows_in, scalars_in, truth_in, undefined_truth}
-use Rattle.ep_tree.specs.Trees.{ExprTree, at_least, at_most, gcc, lex, table}
-use Rattle.ep_tree.specs.declared.values.Mode.{Mode}
+use Rattle.ep_ground.specs.Terms.{truth}
 use Rattle.ep_unroll.proofs.FormValues.{both_same, truth_told, untold_is}
 use Rattle.ep_unroll.proofs.MatrixSteps.{one_list, values_kept}
 use Rattle.ep_unroll.proofs.TruthSteps.{counts_told, counts_untold, length_mapped, lists_there, row_told, row_untold, there_length, told_both}
-use Rattle.ep_unroll.specs.Growing.{Grows}
-use Rattle.ep_unroll.specs.Meanings.{IsTermOf}
-use Rattle.ep_unroll.specs.Needs.{ArePartial}
-use Rattle.ep_unroll.specs.Numbers.{HasNumber}
-use Rattle.ep_unroll.specs.Readings.{Numbering, Reading}
-use Rattle.ep_unroll.specs.Scalars.{AreScalarsOf}
-use Rattle.ep_unroll.specs.Truths.{IsJudged, needed_in}
 
 -- a truth value by the scalars of two lists
 two_lists : (n : Numbering) (cells : Env) (nodes mid new : List GroundNode) (e e' tree : ExprTree) (ts us qs : List ℕ) (t : ℕ) (own : GroundNode) (k : List ℤ → List ℤ → Option Bool)

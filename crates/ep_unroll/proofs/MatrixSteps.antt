@@ -1,30 +1,10 @@
 -- The scalars of matrices as terms.
-use Rattle.std.proofs.Common.{◌≡◌, ℕ, zero, suc, ◌+◌, ◌*◌, ◌<◌, ℤ, List, [], ◌∷◌, ◌++◌, length, Some, None, refl, sym, ap, ◌∙◌, arith, slice_get}
-use Rattle.std.specs.Prelude.{Bool, Option, is_some, map, option_and_then, option_map}
-use Rattle.std.specs.List.{All}
-use Rattle.ep_base.specs.Numbers.{all_one, any_one, are_different, greatest_of, least_of}
-use Rattle.ep_base.specs.Reads.{all_there}
-use Rattle.ep_base.specs.declared.places.Place.{Place}
+use Rattle.ep_unroll.proofs.Words.{◌≡◌, ℕ, zero, suc, ◌+◌, ◌*◌, ◌<◌, ℤ, List, [], ◌∷◌, ◌++◌, length, Some, None, refl, sym, ap, ◌∙◌, arith, slice_get, Bool, Option, is_some, map, option_and_then, option_map, All, all_one, any_one, are_different, greatest_of, least_of, all_there, Place, GroundNode, node_value, term_value, evaluate-all_different, evaluate-folded, Env, evaluate, folded_value, number_value, scalars_in, truth_in, cell_count, ExprTree, all_different, folded, ValueTree, all_defined, as_parts, matrix, scalars_of, scalars_of_all, single, FoldOp, Grows, Puts, IsTermOf, ArePartial, HasNumber, Numbering, Reading, cells_value, each_from, AreScalarsOf, cells_from, IsJudged, needed_in}
 use Rattle.ep_ground.specs.Nodes as node
-use Rattle.ep_ground.specs.Nodes.{GroundNode}
 use Rattle.ep_ground.specs.Terms as ground
-use Rattle.ep_ground.specs.Terms.{node_value, term_value, truth}
-use Rattle.ep_tree.proofs.EvaluationEquations.{evaluate-all_different, evaluate-folded}
-use Rattle.ep_tree.specs.Environments.{Env}
-use Rattle.ep_tree.specs.Evaluation.{evaluate, folded_value, number_value, scalars_in, truth_in}
-use Rattle.ep_tree.specs.Solutions.{cell_count}
-use Rattle.ep_tree.specs.Trees.{ExprTree, all_different, folded}
-use Rattle.ep_tree.specs.Values.{ValueTree, all_defined, as_parts, matrix, scalars_of, scalars_of_all, single}
-use Rattle.ep_tree.specs.declared.syntax.FoldOp.{FoldOp}
+use Rattle.ep_ground.specs.Terms.{truth}
 use Rattle.ep_unroll.proofs.FormValues.{grown_value, grows_on, truth_told}
 use Rattle.ep_unroll.proofs.TruthSteps.{length_mapped, list_there, there_length, told_both}
-use Rattle.ep_unroll.specs.Growing.{Grows, Puts}
-use Rattle.ep_unroll.specs.Meanings.{IsTermOf}
-use Rattle.ep_unroll.specs.Needs.{ArePartial}
-use Rattle.ep_unroll.specs.Numbers.{HasNumber}
-use Rattle.ep_unroll.specs.Readings.{Numbering, Reading, cells_value, each_from}
-use Rattle.ep_unroll.specs.Scalars.{AreScalarsOf, cells_from}
-use Rattle.ep_unroll.specs.Truths.{IsJudged, needed_in}
 
 -- ---- cells one after another
 

@@ -1,24 +1,7 @@
 -- Terms and what they mean, one step after another.
-use Rattle.std.proofs.Common.{◌≡◌, ℕ, suc, ◌<◌, true, ℤ, List, [], ◌∷◌, ◌++◌, length, Some, None, refl, sym, ap, subst, ◌∙◌, arith, append_assoc}
-use Rattle.std.specs.Prelude.{Option, map, option_map}
-use Rattle.std.specs.List.{All}
-use Rattle.std.proofs.lemmas.List.{append-nil, map-append}
-use Rattle.std.proofs.lemmas.List.Elements.{All-push}
-use Rattle.ep_ground.specs.Nodes.{GroundNode}
-use Rattle.ep_ground.specs.Terms.{term_value}
-use Rattle.ep_tree.specs.Environments.{Env}
-use Rattle.ep_tree.specs.Evaluation.{domain_values, evaluate}
-use Rattle.ep_tree.specs.Reach.{decisions_in}
-use Rattle.ep_tree.specs.Trees.{DomainTree, ExprTree}
-use Rattle.ep_tree.specs.Values.{ValueTree}
-use Rattle.ep_tree.specs.declared.values.Mode.{Mode}
-use Rattle.ep_size.specs.Free.{is_free, is_free_domain}
+use Rattle.ep_unroll.proofs.Words.{◌≡◌, ℕ, suc, ◌<◌, true, ℤ, List, [], ◌∷◌, ◌++◌, length, Some, None, refl, sym, ap, subst, ◌∙◌, arith, append_assoc, Option, map, option_map, All, append-nil, map-append, All-push, GroundNode, term_value, Env, domain_values, evaluate, decisions_in, DomainTree, ExprTree, ValueTree, Mode, is_free, is_free_domain, Grows, AreTerms, IsTermOf, Means, worth, Numbering, Reading, Number, Unrolled}
 use Rattle.ep_unroll.proofs.FormValues.{grows_long, grows_on, grown_value}
 use Rattle.ep_unroll.proofs.FreeValues.{agreed_like, free_numbers, free_value}
-use Rattle.ep_unroll.specs.Growing.{Grows}
-use Rattle.ep_unroll.specs.Meanings.{AreTerms, IsTermOf, Means, worth}
-use Rattle.ep_unroll.specs.Readings.{Numbering, Reading}
-use Rattle.ep_unroll.specs.declared.unrolled.Unrolled.{Number, Unrolled}
 
 pub grows_none : (a b : List GroundNode) → b ≡ a → Grows a b
 grows_none a b same = record { more = []; whole = same ∙ sym (append-nil a) }

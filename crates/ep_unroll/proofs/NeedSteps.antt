@@ -1,34 +1,12 @@
 -- What has to have a value so that a matrix has one.
-use Rattle.std.proofs.Common.{◌≡◌, ℕ, zero, suc, ◌+◌, ◌<◌, ◌≤◌, ℤ, pos, true, List, [], ◌∷◌, ◌++◌, length, drop, get_or, Some, None, refl, sym, ap, subst, ◌∙◌, arith, rules, append_assoc}
-use Rattle.std.specs.Prelude.{IsSome, Option, is_some, map, option_and_then, option_map}
-use Rattle.std.specs.List.{All}
-use Rattle.std.proofs.lemmas.List.{append-nil, at_drop_all, at_drop_more, map-append}
-use Rattle.std.proofs.lemmas.List.Elements.{All-push}
-use Rattle.std.proofs.lemmas.Option.{slice_get-get_or}
-use Rattle.ep_base.specs.Reads.{all_there}
-use Rattle.ep_eval.specs.Helds.{seen_held}
-use Rattle.ep_eval.specs.declared.held.Held.{Held}
+use Rattle.ep_unroll.proofs.Words.{◌≡◌, ℕ, zero, suc, ◌+◌, ◌<◌, ◌≤◌, ℤ, pos, true, List, [], ◌∷◌, ◌++◌, length, drop, get_or, Some, None, refl, sym, ap, subst, ◌∙◌, arith, rules, append_assoc, IsSome, Option, is_some, map, option_and_then, option_map, All, append-nil, at_drop_all, at_drop_more, map-append, All-push, slice_get-get_or, all_there, seen_held, Held, GroundNode, node_value, term_value, number_in, scalars_in, cell_count, scalars_of, AddsParts, Grows, Puts, AreTerms, worth, AreNeeded, ArePartial, ArePartialScalars, HasNumber, HaveTerms, cells_value, cells_from, Unrolled}
 use Rattle.ep_ground.specs.Nodes as node
-use Rattle.ep_ground.specs.Nodes.{GroundNode}
-use Rattle.ep_ground.specs.Terms.{node_value, term_value}
-use Rattle.ep_tree.specs.Evaluation.{number_in, scalars_in}
-use Rattle.ep_tree.specs.Solutions.{cell_count}
-use Rattle.ep_tree.specs.Values.{scalars_of}
 use Rattle.ep_unroll.proofs.FormSteps.{none_known}
 use Rattle.ep_unroll.proofs.FlatSteps.{flat_numbers, number_at}
 use Rattle.ep_unroll.proofs.FormValues.{grows_long, grows_on}
 use Rattle.ep_unroll.proofs.GrownParts.{have_at, terms_kept, worth_kept}
 use Rattle.ep_unroll.proofs.MatrixSteps.{cells_scalars, values_kept}
 use Rattle.ep_unroll.proofs.MeaningSteps.{grows_none}
-use Rattle.ep_unroll.specs.Flats.{AddsParts}
-use Rattle.ep_unroll.specs.Growing.{Grows, Puts}
-use Rattle.ep_unroll.specs.Meanings.{AreTerms, worth}
-use Rattle.ep_unroll.specs.Needs.{AreNeeded, ArePartial, ArePartialScalars}
-use Rattle.ep_unroll.specs.Numbers.{HasNumber}
-use Rattle.ep_unroll.specs.PartLists.{HaveTerms}
-use Rattle.ep_unroll.specs.Readings.{cells_value}
-use Rattle.ep_unroll.specs.Scalars.{cells_from}
-use Rattle.ep_unroll.specs.declared.unrolled.Unrolled.{Unrolled}
 
 some_mapped : {A B : Type 0} (f : A → B) (o : Option A) → is_some (option_map f o) ≡ is_some o
 some_mapped f None = refl

@@ -1,12 +1,5 @@
 -- A node that is taken in: its term has the node's value.
-use Rattle.std.proofs.Common.{◌≡◌, ℕ, ℤ, List, [], ◌∷◌, Some, inl, inr, sym, ◌∙◌, slice_get}
-use Rattle.std.proofs.lemmas.List.{append-nil}
-use Rattle.std.proofs.lemmas.Option.{slice_get_within}
-use Rattle.ep_ground.proofs.TermLaws.{value_is}
-use Rattle.ep_ground.specs.ArenaSteps.{Interned}
-use Rattle.ep_ground.specs.Nodes.{GroundNode}
-use Rattle.ep_ground.specs.Terms.{IsArena, node_value, term_value}
-use Rattle.ep_unroll.specs.Growing.{Grows, Puts}
+use Rattle.ep_unroll.proofs.Words.{◌≡◌, ℕ, ℤ, List, [], ◌∷◌, Some, inl, inr, sym, ◌∙◌, slice_get, append-nil, slice_get_within, value_is, Interned, GroundNode, IsArena, node_value, term_value, Grows, Puts}
 
 -- a term of an arena has the value of its node
 pub node_value_at : (nodes : List GroundNode) → IsArena nodes → (t : ℕ) (node : GroundNode) → slice_get nodes t ≡ Some node

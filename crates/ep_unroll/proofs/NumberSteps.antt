@@ -1,22 +1,6 @@
 -- The terms of what was unrolled, as numbers.
-use Rattle.std.proofs.Common.{◌≡◌, ℕ, ℤ, List, [], ◌∷◌, Some, None, refl, sym, ap, subst, ◌∙◌, slice_get}
-use Rattle.std.specs.Prelude.{Option, length, option_map, unwrap_or}
-use Rattle.std.proofs.lemmas.List.{append-nil}
-use Rattle.ep_ground.specs.Nodes.{GroundNode, cell, constant, undefined}
-use Rattle.ep_ground.specs.Terms.{node_value, term_value}
-use Rattle.ep_size.proofs.LookSteps.{only_cells_is}
-use Rattle.ep_tree.specs.Environments.{Bound, Env, has_cells, has_domain, has_value}
-use Rattle.ep_tree.specs.Evaluation.{number_in}
-use Rattle.ep_tree.specs.Trees.{ExprTree}
-use Rattle.ep_tree.specs.Values.{ValueTree, as_parts, matrix, single}
-use Rattle.ep_tree.specs.declared.values.Scalar.{Scalar}
-use Rattle.ep_eval.specs.Bounds.{only_cells}
+use Rattle.ep_unroll.proofs.Words.{◌≡◌, ℕ, ℤ, List, [], ◌∷◌, Some, None, refl, sym, ap, subst, ◌∙◌, slice_get, Option, length, option_map, unwrap_or, append-nil, GroundNode, cell, constant, undefined, node_value, term_value, only_cells_is, Bound, Env, has_cells, has_domain, has_value, number_in, ExprTree, ValueTree, as_parts, matrix, single, Scalar, only_cells, Puts, AreTerms, IsNumberOf, Means, worth, HasNumber, Numbering, cells_value, Unrolled, Number}
 use Rattle.ep_unroll.proofs.FormValues.{grows_on}
-use Rattle.ep_unroll.specs.Growing.{Puts}
-use Rattle.ep_unroll.specs.Meanings.{AreTerms, IsNumberOf, Means, worth}
-use Rattle.ep_unroll.specs.Numbers.{HasNumber}
-use Rattle.ep_unroll.specs.Readings.{Numbering, cells_value}
-use Rattle.ep_unroll.specs.declared.unrolled.Unrolled.{Unrolled, Number}
 
 pub constant_number : (old new : List GroundNode) (x : ℤ) (o : Option ℤ) (t : ℕ) → o ≡ Some x → Puts old new (constant x) t → HasNumber old new (λ numbers. o) t
 unfolding node_value

@@ -1,37 +1,12 @@
 -- ListsTerms of parts: those of a literal, and those of a comprehension, one after another.
-use Rattle.std.proofs.Common.{◌≡◌, ℕ, suc, ◌+◌, ◌<◌, ◌≤◌, true, ℤ, List, [], ◌∷◌, ◌++◌, length, drop, get_or, Some, None, Ok, Err, refl, sym, ap, subst, ◌∙◌, rules, vec_len, append_assoc}
-use Rattle.std.specs.Prelude.{◌&&◌, ◌==◌, IfOk, Option, Result, if◌then◌else◌, map, option_map}
+use Rattle.ep_unroll.proofs.Words.{◌≡◌, ℕ, suc, ◌+◌, ◌<◌, ◌≤◌, true, ℤ, List, [], ◌∷◌, ◌++◌, length, drop, get_or, Some, None, Ok, Err, refl, sym, ap, subst, ◌∙◌, rules, vec_len, append_assoc, ◌&&◌, ◌==◌, IfOk, Option, Result, if◌then◌else◌, map, option_map, append-nil, at_drop_all, at_drop_more, length-map, map-append, all_one, is_one, map_both, on_both, Name, Place, comprehension_is, lost_behind, none_before, none_behind, regrouped, values_name, indices_differ, indices_match, how_many, generated_values, lists_joined, part_value, part_where, some_joined, GroundNode, evaluate-literal, Env, scalar_in, with_number, all_true, domain_values, evaluate, index_values, matrix_value, number_in, truth_of, values_of, DomainTree, ExprTree, ExprTrees, Generators, IndexDomain, comprehension, generator_and, literal, is_number_of, ValueTree, all_defined, as_parts, matrix, with_indices, expr_tree, expr_trees, Expr, Mode, Scalar, Grows, AreTerms, Means, worth, ArePartsOf, HaveTerms, ListsTerms, MayHaveTerms, listed_worths, worths, Numbering, Reading, Unrolled}
 use Rattle.std.specs.declared.alloc.Global.{Global}
 use Rattle.std.specs.declared.vec.Vec.{Vec}
-use Rattle.std.proofs.lemmas.List.{append-nil, at_drop_all, at_drop_more, length-map, map-append}
-use Rattle.ep_base.specs.Numbers.{all_one, is_one}
-use Rattle.ep_base.specs.Options.{map_both, on_both}
-use Rattle.ep_base.specs.declared.names.Name.{Name}
-use Rattle.ep_base.specs.declared.places.Place.{Place}
-use Rattle.ep_eval.proofs.GeneratingSteps.{comprehension_is, lost_behind, none_before, none_behind, regrouped, values_name}
-use Rattle.ep_eval.proofs.LiteralForms.{indices_differ, indices_match}
-use Rattle.ep_eval.specs.Generating.{how_many, generated_values, lists_joined, part_value, part_where, some_joined}
-use Rattle.ep_ground.specs.Nodes.{GroundNode}
-use Rattle.ep_tree.proofs.EvaluationEquations.{evaluate-literal}
-use Rattle.ep_tree.specs.Environments.{Env, scalar_in, with_number}
-use Rattle.ep_tree.specs.Evaluation.{all_true, domain_values, evaluate, index_values, matrix_value, number_in, truth_of, values_of}
-use Rattle.ep_tree.specs.Trees.{DomainTree, ExprTree, ExprTrees, Generators, IndexDomain, comprehension, generator_and, literal}
-use Rattle.ep_tree.specs.TypedValues.{is_number_of}
-use Rattle.ep_tree.specs.Values.{ValueTree, all_defined, as_parts, matrix, with_indices}
-use Rattle.ep_tree.specs.Views.{expr_tree, expr_trees}
-use Rattle.ep_tree.specs.declared.syntax.Expr.{Expr}
-use Rattle.ep_tree.specs.declared.values.Mode.{Mode}
-use Rattle.ep_tree.specs.declared.values.Scalar.{Scalar}
 use Rattle.ep_unroll.proofs.CycleSteps.{within}
 use Rattle.ep_unroll.proofs.FormValues.{grows_on}
 use Rattle.ep_unroll.proofs.FreeValues.{scalar_kept}
 use Rattle.ep_unroll.proofs.GrownParts.{have_both, have_kept, have_one, worths_kept}
 use Rattle.ep_unroll.proofs.MeaningSteps.{grows_none}
-use Rattle.ep_unroll.specs.Growing.{Grows}
-use Rattle.ep_unroll.specs.Meanings.{AreTerms, Means, worth}
-use Rattle.ep_unroll.specs.PartLists.{ArePartsOf, HaveTerms, ListsTerms, MayHaveTerms, listed_worths, worths}
-use Rattle.ep_unroll.specs.Readings.{Numbering, Reading}
-use Rattle.ep_unroll.specs.declared.unrolled.Unrolled.{Unrolled}
 
 -- ---- expressions one after another
 

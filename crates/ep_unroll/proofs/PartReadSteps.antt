@@ -1,22 +1,13 @@
 -- Reads of what was unrolled: the terms that choose.
-use Rattle.std.proofs.Common.{◌≡◌, ℕ, suc, ◌<◌, ℤ, pos, Bool, true, false, ◌&&◌, List, [], ◌∷◌, length, Some, None, refl, sym, ap, subst, ◌∙◌, arith}
-use Rattle.std.specs.Prelude.{IsSome, Option, map, option_and_then, option_map, unwrap_or}
-use Rattle.std.specs.List.{All}
-use Rattle.ep_base.specs.Numbers.{all_one, is_one, of_bool, same_numbers}
-use Rattle.ep_base.specs.Options.{on_both}
-use Rattle.ep_base.specs.Reads.{all_there, first_or_zero, picked, safe_picked}
+use Rattle.ep_unroll.proofs.Words.{◌≡◌, ℕ, suc, ◌<◌, ℤ, pos, Bool, true, false, ◌&&◌, List, [], ◌∷◌, length, Some, None, refl, sym, ap, subst, ◌∙◌, arith, IsSome, Option, map, option_and_then, option_map, unwrap_or, All, all_one, is_one, of_bool, same_numbers, on_both, all_there, first_or_zero, picked, safe_picked, GroundNode, node_value, term_value, Grows, Puts, CanBeSafe, IsAlone, IsChosen, IsFound, IsTruth, IsWhole, found_among, numbers_of_terms, only_where, look_up}
 use Rattle.ep_ground.specs.Nodes as node
-use Rattle.ep_ground.specs.Nodes.{GroundNode}
 use Rattle.ep_ground.specs.Terms as ground
-use Rattle.ep_ground.specs.Terms.{node_value, term_value, truth}
+use Rattle.ep_ground.specs.Terms.{truth}
 use Rattle.ep_unroll.proofs.FormValues.{grown_value, grows_on}
 use Rattle.ep_unroll.proofs.MatrixSteps.{values_kept}
 use Rattle.ep_unroll.proofs.MeaningSteps.{grows_none}
 use Rattle.ep_unroll.proofs.NeedSteps.{some_there}
 use Rattle.ep_unroll.proofs.PickSteps.{picked_found}
-use Rattle.ep_unroll.specs.Growing.{Grows, Puts}
-use Rattle.ep_unroll.specs.PartReads.{CanBeSafe, IsAlone, IsChosen, IsFound, IsTruth, IsWhole, found_among, numbers_of_terms, only_where}
-use Rattle.ep_unroll.specs.Picks.{look_up}
 
 -- ---- what is found
 

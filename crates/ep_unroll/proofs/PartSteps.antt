@@ -1,30 +1,7 @@
 -- Parts of blocks of cells.
-use Rattle.std.proofs.Common.{◌≡◌, ℕ, suc, ◌+◌, ◌<◌, ◌≤◌, Bool, true, false, ℤ, List, [], ◌∷◌, ◌++◌, length, drop, get_or, Some, None, refl, sym, ap, subst, ◌∙◌, arith, append_assoc, slice_get, Ok, Err}
-use Rattle.std.specs.Prelude.{Option, Result, IfOk, map, option_and_then, option_map, if◌then◌else◌}
-use Rattle.std.specs.Ordering.{int_eq}
-use Rattle.std.proofs.lemmas.List.{append-nil, at_drop_all, at_drop_more, map-append}
-use Rattle.ep_base.proofs.Small.{map_is, no_some, some_is}
-use Rattle.ep_base.specs.Options.{map_both, on_both}
-use Rattle.ep_base.specs.declared.names.Name.{Name}
-use Rattle.ep_base.specs.declared.places.Place.{Place}
-use Rattle.ep_ground.specs.Nodes.{GroundNode}
-use Rattle.ep_tree.proofs.EvaluationEquations.{evaluate-named, evaluate-read}
-use Rattle.ep_tree.specs.Environments.{Bound, Env, has_cells, value_bound}
-use Rattle.ep_tree.specs.Evaluation.{evaluate, index_list, number_in, read_result, type_in}
-use Rattle.ep_tree.specs.Solutions.{cell_count}
-use Rattle.ep_tree.specs.Trees.{ExprTree, Indices, named, read}
-use Rattle.ep_tree.specs.Values.{Index, ValueTree, all_defined, any_index, as_parts, at_index, index_in, indices_in, listed_values, matrix, part_at, read_value, single}
-use Rattle.ep_tree.specs.Views.{expr_tree, indices_of}
-use Rattle.ep_tree.specs.declared.syntax.Expr.{Expr}
-use Rattle.ep_tree.specs.declared.values.Mode.{Mode}
-use Rattle.ep_tree.specs.declared.values.Scalar.{Scalar}
-use Rattle.ep_tree.specs.declared.values.ValueType.{ValueType}
-use Rattle.ep_eval.proofs.ReadResults.{read_found}
+use Rattle.ep_unroll.proofs.Words.{◌≡◌, ℕ, suc, ◌+◌, ◌<◌, ◌≤◌, Bool, true, false, ℤ, List, [], ◌∷◌, ◌++◌, length, drop, get_or, Some, None, refl, sym, ap, subst, ◌∙◌, arith, append_assoc, slice_get, Ok, Err, Option, Result, IfOk, map, option_and_then, option_map, if◌then◌else◌, int_eq, append-nil, at_drop_all, at_drop_more, map-append, map_is, no_some, some_is, map_both, on_both, Name, Place, GroundNode, evaluate-named, evaluate-read, Bound, Env, has_cells, value_bound, evaluate, index_list, number_in, read_result, type_in, cell_count, ExprTree, Indices, named, read, Index, ValueTree, all_defined, any_index, as_parts, at_index, index_in, indices_in, listed_values, matrix, part_at, read_value, single, expr_tree, indices_of, Expr, Mode, Scalar, ValueType, read_found, IsWorth, StandFor, block_under, one_index, AreTerms, Means, worth, Numbering, Reading, ReadsName, cells_value, each_from, Unrolled, Number, Cells, Fixed, Matrix'}
 use Rattle.ep_unroll.proofs.FreeValues.{type_kept}
-use Rattle.ep_unroll.specs.Blocks.{IsWorth, StandFor, block_under, cell_of, one_index}
-use Rattle.ep_unroll.specs.Meanings.{AreTerms, Means, worth}
-use Rattle.ep_unroll.specs.Readings.{Numbering, Reading, ReadsName, cells_value, each_from}
-use Rattle.ep_unroll.specs.declared.unrolled.Unrolled.{Unrolled, Number, Cells, Fixed, Matrix'}
+use Rattle.ep_unroll.specs.Blocks.{cell_of}
 
 pub no_block : (first : ℕ) (domains : List (List ℤ)) (i : ℤ) → domains ≡ [] → None ≡ block_under first domains i
 unfolding block_under

@@ -1,32 +1,12 @@
 -- The scalars among which a read chooses, one part after another.
-use Rattle.std.proofs.Common.{◌≡◌, ℕ, zero, suc, ◌+◌, ◌<◌, nat_lt, Bool, true, false, ◌&&◌, not, cond, ℤ, List, [], ◌∷◌, ◌++◌, length, Some, None, refl, sym, ap, subst, ◌∙◌, arith, slice_get, get_or}
-use Rattle.std.specs.Prelude.{Option, map, option_and_then, option_map, if◌then◌else◌, position}
-use Rattle.std.specs.List.{All, position_or_len}
-use Rattle.std.specs.Ordering.{int_eq}
-use Rattle.std.proofs.lemmas.Bool.Decides.{Decides-int_eq, Decides-like, Decides-ltb, same_from_decides}
-use Rattle.std.proofs.lemmas.Int.{ints}
-use Rattle.std.proofs.lemmas.List.{length-append, map-append}
-use Rattle.std.proofs.lemmas.List.Elements.{All-append}
-use Rattle.ep_base.proofs.Ascending.{ascending_cons, ascending_head, ascending_tail, first_of}
-use Rattle.ep_base.proofs.Small.{some_is}
-use Rattle.ep_base.specs.Numbers.{same_numbers}
-use Rattle.ep_base.specs.Reads.{picked}
-use Rattle.ep_base.specs.Runs.{IsAscending}
+use Rattle.ep_unroll.proofs.Words.{◌≡◌, ℕ, zero, suc, ◌+◌, ◌<◌, nat_lt, Bool, true, false, ◌&&◌, not, cond, ℤ, List, [], ◌∷◌, ◌++◌, length, Some, None, refl, sym, ap, subst, ◌∙◌, arith, slice_get, get_or, Option, map, option_and_then, option_map, if◌then◌else◌, position, All, position_or_len, int_eq, Decides-int_eq, Decides-like, Decides-ltb, same_from_decides, ints, length-append, map-append, All-append, ascending_cons, ascending_head, ascending_tail, some_is, same_numbers, picked, IsAscending, GroundNode, term_value, Index, ValueTree, as_parts, at_index, matrix, part_at, read_value, single, block_under, Grows, AreEntries, AreRead, filled_in, look_up, open_terms, cells_value, Slot, At, Open}
+use Rattle.ep_base.proofs.Ascending.{first_of}
 use Rattle.ep_ground.specs.Nodes as node
-use Rattle.ep_ground.specs.Nodes.{GroundNode}
-use Rattle.ep_ground.specs.Terms.{term_value}
-use Rattle.ep_tree.specs.Values.{Index, ValueTree, as_parts, at_index, matrix, part_at, read_value, single}
 use Rattle.ep_unroll.proofs.FormValues.{grown_value, grows_long, grows_on}
 use Rattle.ep_unroll.proofs.MatrixSteps.{values_kept}
 use Rattle.ep_unroll.proofs.MeaningSteps.{grows_none}
 use Rattle.ep_unroll.proofs.PartSteps.{Leads, block_leads}
 use Rattle.ep_unroll.proofs.TruthSteps.{length_mapped, no_less}
-use Rattle.ep_unroll.specs.Blocks.{block_under}
-use Rattle.ep_unroll.specs.Growing.{Grows}
-use Rattle.ep_unroll.specs.Picks.{AreEntries, AreRead, filled_in, look_up, open_terms}
-use Rattle.ep_unroll.specs.Readings.{cells_value}
-use Rattle.ep_unroll.specs.declared.slots.Slot.{Slot}
-use Rattle.ep_unroll.specs.declared.slots.Slot.TheVariants.{At, Open}
 
 -- ---- what is found under keys
 

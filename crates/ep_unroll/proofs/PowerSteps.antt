@@ -1,26 +1,8 @@
 -- Powers of terms.
-use Rattle.std.proofs.Common.{◌≡◌, ℕ, ◌<ℤ◌, ℤ, pos, negsuc, List, Some, None, refl, sym, ap, ◌∙◌, arith}
-use Rattle.std.specs.Prelude.{Option, option_and_then, option_map}
-use Rattle.std.proofs.lemmas.Int.{ints}
-use Rattle.ep_base.specs.Numbers.{nth_power}
+use Rattle.ep_unroll.proofs.Words.{◌≡◌, ℕ, ◌<ℤ◌, ℤ, pos, negsuc, List, Some, None, refl, sym, ap, ◌∙◌, arith, Option, option_and_then, option_map, ints, nth_power, on_both, Place, GroundNode, node_value, term_value, evaluate-binary, Env, binary_number, binary_value, evaluate, joins_truths, number_in, ExprTree, binary, single, BinaryOp, Mode, Puts, IsNumberOf, IsTermOf, IsPower, Numbering}
 use Rattle.ep_base.specs.Numbers as numbers
-use Rattle.ep_base.specs.Options.{on_both}
-use Rattle.ep_base.specs.declared.places.Place.{Place}
 use Rattle.ep_ground.specs.Nodes as node
-use Rattle.ep_ground.specs.Nodes.{GroundNode}
-use Rattle.ep_ground.specs.Terms.{node_value, term_value}
-use Rattle.ep_tree.proofs.EvaluationEquations.{evaluate-binary}
-use Rattle.ep_tree.specs.Environments.{Env}
-use Rattle.ep_tree.specs.Evaluation.{binary_number, binary_value, evaluate, joins_truths, number_in}
-use Rattle.ep_tree.specs.Trees.{ExprTree, binary}
-use Rattle.ep_tree.specs.Values.{single}
-use Rattle.ep_tree.specs.declared.syntax.BinaryOp.{BinaryOp}
-use Rattle.ep_tree.specs.declared.values.Mode.{Mode}
 use Rattle.ep_unroll.proofs.FormValues.{grows_on}
-use Rattle.ep_unroll.specs.Growing.{Puts}
-use Rattle.ep_unroll.specs.Meanings.{IsNumberOf, IsTermOf}
-use Rattle.ep_unroll.specs.Powers.{IsPower}
-use Rattle.ep_unroll.specs.Readings.{Numbering}
 
 -- ---- a term to the power of an exponent
 

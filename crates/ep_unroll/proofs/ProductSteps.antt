@@ -1,32 +1,10 @@
 -- Products of terms, from the first to the last.
-use Rattle.std.proofs.Common.{◌≡◌, ℕ, suc, ◌+◌, ◌<◌, ◌≤◌, ℤ, pos, List, [], ◌∷◌, ◌++◌, length, get_or, take, Some, None, refl, sym, ap, subst, ◌∙◌, arith}
-use Rattle.std.specs.Prelude.{Option, ◌*ℤ◌, map, option_map}
-use Rattle.std.specs.List.{All}
-use Rattle.std.proofs.lemmas.Int.{ints}
-use Rattle.std.proofs.lemmas.List.{map-append, take_all, take_more}
-use Rattle.ep_base.specs.Numbers.{product_of}
-use Rattle.ep_base.specs.Options.{on_both}
-use Rattle.ep_base.specs.Reads.{all_there}
-use Rattle.ep_base.specs.declared.places.Place.{Place}
+use Rattle.ep_unroll.proofs.Words.{◌≡◌, ℕ, suc, ◌+◌, ◌<◌, ◌≤◌, ℤ, pos, List, [], ◌∷◌, ◌++◌, length, get_or, take, Some, None, refl, sym, ap, subst, ◌∙◌, arith, Option, ◌*ℤ◌, map, option_map, All, ints, map-append, take_all, take_more, product_of, on_both, all_there, Place, GroundNode, node_value, term_value, evaluate-folded, Env, folded_value, ExprTree, folded, single, FoldOp, times_again, Puts, IsTermOf, HasNumber, Numbering, AreScalarsOf}
 use Rattle.ep_ground.specs.Nodes as node
-use Rattle.ep_ground.specs.Nodes.{GroundNode}
-use Rattle.ep_ground.specs.Terms.{node_value, term_value}
-use Rattle.ep_tree.proofs.EvaluationEquations.{evaluate-folded}
-use Rattle.ep_tree.specs.Environments.{Env}
-use Rattle.ep_tree.specs.Evaluation.{folded_value}
-use Rattle.ep_tree.specs.Trees.{ExprTree, folded}
-use Rattle.ep_tree.specs.Values.{single}
-use Rattle.ep_tree.specs.declared.syntax.FoldOp.{FoldOp}
-use Rattle.ep_eval.proofs.Products.{times_again}
 use Rattle.ep_unroll.proofs.FormSteps.{two_known}
 use Rattle.ep_unroll.proofs.FormValues.{grown_value, grows_long, grows_on}
 use Rattle.ep_unroll.proofs.MatrixSteps.{joined, there_cut}
 use Rattle.ep_unroll.proofs.MeaningSteps.{grows_none}
-use Rattle.ep_unroll.specs.Growing.{Puts}
-use Rattle.ep_unroll.specs.Meanings.{IsTermOf}
-use Rattle.ep_unroll.specs.Numbers.{HasNumber}
-use Rattle.ep_unroll.specs.Readings.{Numbering}
-use Rattle.ep_unroll.specs.Scalars.{AreScalarsOf}
 
 -- the product of some terms, by the values that they have among old nodes
 abbrev pub multiplied : List GroundNode → List ℕ → List ℤ → Option ℤ

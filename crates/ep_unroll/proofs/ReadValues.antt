@@ -1,21 +1,6 @@
 -- The value of a read, by the numbers among which it chooses.
-use Rattle.std.proofs.Common.{◌≡◌, ℕ, ◌≤◌, ℤ, true, false, List, [], ◌∷◌, length, map, Some, None, refl, sym, ap, subst, ◌∙◌}
-use Rattle.std.specs.Prelude.{Option, is_some, option_and_then, option_map}
-use Rattle.ep_base.specs.Numbers.{is_one, of_bool}
-use Rattle.ep_base.specs.Options.{on_both}
-use Rattle.ep_base.specs.Reads.{all_there}
-use Rattle.ep_base.specs.declared.places.Place.{Place}
-use Rattle.ep_ground.specs.Nodes.{GroundNode}
+use Rattle.ep_unroll.proofs.Words.{◌≡◌, ℕ, ◌≤◌, ℤ, true, false, List, [], ◌∷◌, length, map, Some, None, refl, sym, ap, subst, ◌∙◌, Option, is_some, option_and_then, option_map, is_one, of_bool, on_both, all_there, Place, GroundNode, Env, evaluate-read, evaluate, index_list, read_result, type_in, ExprTree, read, Index, ValueTree, all_defined, read_value, single, indices_of, Expr, Mode, ValueType, one_index, Grows, IsLeft, LeftMeans, AreTerms, Means, worth, AreNeeded, IsChosen, IsTruth, chosen_among, found_among, numbers_of_terms, only_where, AreEntries, AreSlotsOf, filled_in, look_up, open_terms, slot_index, Numbering, Reading, Slot, Unrolled, Number}
 use Rattle.ep_ground.specs.Terms.{truth}
-use Rattle.ep_tree.specs.Environments.{Env}
-use Rattle.ep_tree.proofs.EvaluationEquations.{evaluate-read}
-use Rattle.ep_tree.specs.Evaluation.{evaluate, index_list, read_result, type_in}
-use Rattle.ep_tree.specs.Trees.{ExprTree, read}
-use Rattle.ep_tree.specs.Values.{Index, ValueTree, all_defined, read_value, single}
-use Rattle.ep_tree.specs.Views.{indices_of}
-use Rattle.ep_tree.specs.declared.syntax.Expr.{Expr}
-use Rattle.ep_tree.specs.declared.values.Mode.{Mode}
-use Rattle.ep_tree.specs.declared.values.ValueType.{ValueType}
 use Rattle.ep_unroll.proofs.FormValues.{grows_on}
 use Rattle.ep_unroll.proofs.FreeValues.{type_kept}
 use Rattle.ep_unroll.proofs.GrownParts.{terms_kept, worth_kept}
@@ -23,16 +8,6 @@ use Rattle.ep_unroll.proofs.MatrixSteps.{values_kept}
 use Rattle.ep_unroll.proofs.SlotSteps.{all_some, indices_listed, read_is}
 use Rattle.ep_unroll.proofs.TypedReadings.{truth_is}
 use Rattle.ep_unroll.proofs.PartSteps.{is_worth}
-use Rattle.ep_unroll.specs.Blocks.{one_index}
-use Rattle.ep_unroll.specs.Growing.{Grows}
-use Rattle.ep_unroll.specs.Lefts.{IsLeft, LeftMeans}
-use Rattle.ep_unroll.specs.Meanings.{AreTerms, Means, worth}
-use Rattle.ep_unroll.specs.Needs.{AreNeeded}
-use Rattle.ep_unroll.specs.PartReads.{IsChosen, IsTruth, chosen_among, found_among, numbers_of_terms, only_where}
-use Rattle.ep_unroll.specs.Picks.{AreEntries, AreSlotsOf, filled_in, look_up, open_terms, slot_index}
-use Rattle.ep_unroll.specs.Readings.{Numbering, Reading}
-use Rattle.ep_unroll.specs.declared.slots.Slot.{Slot}
-use Rattle.ep_unroll.specs.declared.unrolled.Unrolled.{Unrolled, Number}
 
 some_true : {A : Type 0} (o : Option A) → is_some o ≡ true → (x : A) × (o ≡ Some x)
 some_true None h = absurd cc

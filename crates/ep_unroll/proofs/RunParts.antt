@@ -1,16 +1,6 @@
 -- The part of a block with an index, where the index domain is gone through run by run.
-use Rattle.std.proofs.Common.{◌≡◌, ℕ, zero, suc, ◌+◌, ◌*◌, ◌<◌, Bool, true, false, ℤ, pos, negsuc, ◌+ℤ◌, ◌-ℤ◌, ◌≤ℤ◌, ◌<ℤ◌, ◌≤◌, ◌⊎◌, inl, inr, List, [], ◌∷◌, ◌++◌, length, drop, get_or, Some, None, refl, sym, ap, subst, ◌∙◌, arith}
-use Rattle.std.specs.Prelude.{flat_map, if◌then◌else◌, map, nat_abs}
-use Rattle.std.specs.Ordering.{int_eq}
-use Rattle.std.proofs.lemmas.Bool.Decides.{Decides-int_eq}
-use Rattle.std.proofs.lemmas.Int.{ints}
-use Rattle.std.proofs.lemmas.List.{at_drop_all, at_drop_more, length-append, length-map}
-use Rattle.ep_base.specs.Runs.{counting, numbers, numbers_in, or_zero}
-use Rattle.ep_base.specs.declared.run_lists.Run.{Run}
-use Rattle.ep_numbers.proofs.Counting.{length_of_run}
-use Rattle.ep_tree.specs.Solutions.{cell_count}
+use Rattle.ep_unroll.proofs.Words.{◌≡◌, ℕ, zero, suc, ◌+◌, ◌*◌, ◌<◌, Bool, true, false, ℤ, pos, negsuc, ◌+ℤ◌, ◌-ℤ◌, ◌≤ℤ◌, ◌<ℤ◌, ◌≤◌, ◌⊎◌, inl, inr, List, [], ◌∷◌, ◌++◌, length, drop, get_or, Some, None, refl, sym, ap, subst, ◌∙◌, arith, flat_map, if◌then◌else◌, map, nat_abs, int_eq, Decides-int_eq, ints, at_drop_all, at_drop_more, length-append, length-map, counting, numbers, numbers_in, or_zero, Run, length_of_run, cell_count, index_lists}
 use Rattle.ep_unroll.specs.Blocks.{cell_of}
-use Rattle.ep_unroll.specs.Cells.{index_lists}
 
 -- ---- one run
 

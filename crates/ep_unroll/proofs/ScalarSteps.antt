@@ -1,24 +1,9 @@
 -- The terms of scalars, one for each.
-use Rattle.std.proofs.Common.{◌≡◌, ℕ, ◌+◌, ◌<◌, ◌≤◌, ℤ, List, [], ◌∷◌, ◌++◌, length, drop, get_or, refl, ap, ◌∙◌, sym}
-use Rattle.std.specs.Prelude.{map}
-use Rattle.std.proofs.lemmas.List.{at_drop_all, at_drop_more}
-use Rattle.ep_base.specs.Reads.{all_there}
-use Rattle.ep_ground.specs.Nodes.{GroundNode}
-use Rattle.ep_tree.specs.Environments.{Env}
-use Rattle.ep_tree.specs.Evaluation.{scalars_in}
-use Rattle.ep_tree.specs.Trees.{ExprTree}
+use Rattle.ep_unroll.proofs.Words.{◌≡◌, ℕ, ◌+◌, ◌<◌, ◌≤◌, ℤ, List, [], ◌∷◌, ◌++◌, length, drop, get_or, refl, ap, ◌∙◌, sym, map, at_drop_all, at_drop_more, all_there, GroundNode, Env, scalars_in, ExprTree, AddsParts, Grows, Means, worth, HasNumber, HaveScalars, Numbering, AreScalarsOf, Unrolled}
 use Rattle.ep_unroll.proofs.FlatSteps.{flat_numbers, number_at}
 use Rattle.ep_unroll.proofs.FormValues.{grows_long, grows_on}
 use Rattle.ep_unroll.proofs.MatrixSteps.{values_kept}
 use Rattle.ep_unroll.proofs.MeaningSteps.{Listing, listing_begins, listing_ends, listing_more}
-use Rattle.ep_unroll.specs.Flats.{AddsParts}
-use Rattle.ep_unroll.specs.Growing.{Grows}
-use Rattle.ep_unroll.specs.Meanings.{Means, worth}
-use Rattle.ep_unroll.specs.Numbers.{HasNumber}
-use Rattle.ep_unroll.specs.PartLists.{HaveScalars}
-use Rattle.ep_unroll.specs.Readings.{Numbering}
-use Rattle.ep_unroll.specs.Scalars.{AreScalarsOf}
-use Rattle.ep_unroll.specs.declared.unrolled.Unrolled.{Unrolled}
 
 -- the terms of some scalars so far, of which those behind a place are left
 abbrev pub EachSoFar : List GroundNode → List GroundNode → List Unrolled → ℕ → List ℕ → Type 0

@@ -1,44 +1,14 @@
 -- Membership in the sets of matrices' scalars.
-use Rattle.std.proofs.Common.{◌≡◌, ℕ, ◌+◌, ◌<◌, ◌≤◌, ℤ, pos, ◌+ℤ◌, ◌-ℤ◌, Bool, true, false, ◌||◌, List, [], ◌∷◌, ◌++◌, length, drop, get_or, Some, None, refl, sym, ap, subst, ◌∙◌, arith}
-use Rattle.std.specs.Prelude.{Option, is_some, map, option_map, ◌↔◌}
-use Rattle.std.specs.List.{All, Any, Contains}
-use Rattle.std.specs.Ordering.{int_eq}
-use Rattle.std.proofs.lemmas.Bool.Decides.{Decides-int_eq}
-use Rattle.std.proofs.lemmas.Int.{ints}
-use Rattle.std.proofs.lemmas.List.{at_drop_all, at_drop_more}
-use Rattle.std.proofs.lemmas.Map.Views.{Contains-from_any}
-use Rattle.ep_base.proofs.RunSteps.{in_numbers}
-use Rattle.ep_base.specs.Numbers.{any_one, compare_holds, has_number, is_one, of_bool}
-use Rattle.ep_base.specs.Options.{map_both, on_both}
-use Rattle.ep_base.specs.Reads.{all_there}
-use Rattle.ep_base.specs.Runs.{IsIn, counting, numbers_in, or_zero}
+use Rattle.ep_unroll.proofs.Words.{◌≡◌, ℕ, ◌+◌, ◌<◌, ◌≤◌, ℤ, pos, ◌+ℤ◌, ◌-ℤ◌, Bool, true, false, ◌||◌, List, [], ◌∷◌, ◌++◌, length, drop, get_or, Some, None, refl, sym, ap, subst, ◌∙◌, arith, Option, is_some, map, option_map, ◌↔◌, All, Any, int_eq, Decides-int_eq, ints, at_drop_all, at_drop_more, Contains-from_any, in_numbers, any_one, compare_holds, has_number, is_one, of_bool, map_both, on_both, all_there, IsIn, counting, numbers_in, or_zero, CompareOp, Place, Run, has_is, GroundNode, node_value, term_value, evaluate-in_set, Env, evaluate, number_in, scalars_in, truth_in, undefined_truth, ExprTree, in_set, Mode, Grows, Puts, IsNumberOf, IsTermOf, ArePartial, HasNumber, IsWhole, numbers_of_terms, only_where, Numbering, Reading, AreScalarsOf, AreEqualities, IsJudged, needed_in}
+use Rattle.std.specs.List.{Contains}
 use Rattle.ep_base.specs.Runs as runs
-use Rattle.ep_base.specs.declared.operators.CompareOp.{CompareOp}
-use Rattle.ep_base.specs.declared.places.Place.{Place}
-use Rattle.ep_base.specs.declared.run_lists.Run.{Run}
-use Rattle.ep_eval.proofs.ListLaws.{has_is}
 use Rattle.ep_ground.specs.Nodes as node
-use Rattle.ep_ground.specs.Nodes.{GroundNode}
 use Rattle.ep_ground.specs.Terms as ground
-use Rattle.ep_ground.specs.Terms.{node_value, term_value, truth}
-use Rattle.ep_tree.proofs.EvaluationEquations.{evaluate-in_set}
-use Rattle.ep_tree.specs.Environments.{Env}
-use Rattle.ep_tree.specs.Evaluation.{evaluate, number_in, scalars_in, truth_in, undefined_truth}
-use Rattle.ep_tree.specs.Trees.{ExprTree, in_set}
-use Rattle.ep_tree.specs.declared.values.Mode.{Mode}
+use Rattle.ep_ground.specs.Terms.{truth}
 use Rattle.ep_unroll.proofs.FormValues.{grown_value, grows_on, one_truth, truth_told, untold_is}
 use Rattle.ep_unroll.proofs.MatrixSteps.{values_kept}
 use Rattle.ep_unroll.proofs.MeaningSteps.{Listing, listing_begins, listing_ends, listing_more}
 use Rattle.ep_unroll.proofs.TruthSteps.{told_both}
-use Rattle.ep_unroll.specs.Growing.{Grows, Puts}
-use Rattle.ep_unroll.specs.Meanings.{IsNumberOf, IsTermOf}
-use Rattle.ep_unroll.specs.Needs.{ArePartial}
-use Rattle.ep_unroll.specs.Numbers.{HasNumber}
-use Rattle.ep_unroll.specs.PartReads.{IsWhole, numbers_of_terms, only_where}
-use Rattle.ep_unroll.specs.Readings.{Numbering, Reading}
-use Rattle.ep_unroll.specs.Scalars.{AreScalarsOf}
-use Rattle.ep_unroll.specs.Sets.{AreEqualities}
-use Rattle.ep_unroll.specs.Truths.{IsJudged, needed_in}
 
 -- ---- a set of numbers
 

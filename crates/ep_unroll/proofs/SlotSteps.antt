@@ -1,36 +1,10 @@
 -- Places for the indices of a read, one after another, and reads that choose.
-use Rattle.std.proofs.Common.{◌≡◌, ℕ, zero, suc, ◌+◌, ◌<◌, ◌≤◌, ℤ, List, [], ◌∷◌, ◌++◌, length, drop, get_or, Some, None, refl, sym, ap, subst, ◌∙◌, arith, append_assoc}
-use Rattle.std.specs.Prelude.{IfOk, Option, Result, Ok, Err, map, option_and_then, option_map}
-use Rattle.std.specs.List.{All}
-use Rattle.std.proofs.lemmas.List.{append-nil, at_drop_all, at_drop_more, map-append}
-use Rattle.std.proofs.lemmas.List.Elements.{All-append, All-push}
-use Rattle.ep_base.specs.Options.{map_both, on_both}
-use Rattle.ep_base.specs.Reads.{all_there}
-use Rattle.ep_base.specs.declared.places.Place.{Place}
-use Rattle.ep_ground.specs.Nodes.{GroundNode}
-use Rattle.ep_ground.specs.Terms.{term_value}
-use Rattle.ep_tree.proofs.EvaluationEquations.{evaluate-read}
-use Rattle.ep_tree.specs.Environments.{Env}
-use Rattle.ep_tree.specs.Evaluation.{evaluate, index_list, number_in, read_result, type_in}
-use Rattle.ep_tree.specs.Trees.{ExprTree, read}
-use Rattle.ep_tree.specs.Values.{Index, ValueTree, all_defined, any_index, at_index, read_value, single}
-use Rattle.ep_tree.specs.Views.{expr_tree, indices_of}
-use Rattle.ep_tree.specs.declared.syntax.Expr.{Expr}
-use Rattle.ep_tree.specs.declared.values.Mode.{Mode}
-use Rattle.ep_tree.specs.declared.values.ValueType.{ValueType}
+use Rattle.ep_unroll.proofs.Words.{◌≡◌, ℕ, zero, suc, ◌+◌, ◌<◌, ◌≤◌, ℤ, List, [], ◌∷◌, ◌++◌, length, drop, get_or, Some, None, refl, sym, ap, subst, ◌∙◌, arith, append_assoc, IfOk, Option, Result, Ok, Err, map, option_and_then, option_map, All, append-nil, at_drop_all, at_drop_more, map-append, All-append, All-push, map_both, on_both, all_there, Place, GroundNode, term_value, evaluate-read, Env, evaluate, index_list, number_in, read_result, type_in, ExprTree, read, Index, ValueTree, all_defined, any_index, at_index, read_value, single, expr_tree, indices_of, Expr, Mode, ValueType, one_index, Grows, AreTerms, IsNumberOf, Means, worth, AreKnown, AreSlotsOf, IsSlot, IsSlotOf, SlotMeans, SlotsMean, filled_in, open_terms, slot_index, Numbering, Reading, Slot, Every, At, Open, Unrolled}
 use Rattle.ep_unroll.proofs.FormValues.{grown_value, grows_long, grows_on}
 use Rattle.ep_unroll.proofs.FreeValues.{type_kept}
 use Rattle.ep_unroll.proofs.MeaningSteps.{grows_none}
 use Rattle.ep_unroll.proofs.PartSteps.{index_cut}
 use Rattle.ep_unroll.proofs.TruthSteps.{length_mapped, there_length}
-use Rattle.ep_unroll.specs.Blocks.{one_index}
-use Rattle.ep_unroll.specs.Growing.{Grows}
-use Rattle.ep_unroll.specs.Meanings.{AreTerms, IsNumberOf, Means, worth}
-use Rattle.ep_unroll.specs.Picks.{AreKnown, AreSlotsOf, IsSlot, IsSlotOf, SlotMeans, SlotsMean, filled_in, open_terms, slot_index}
-use Rattle.ep_unroll.specs.Readings.{Numbering, Reading}
-use Rattle.ep_unroll.specs.declared.slots.Slot.{Slot}
-use Rattle.ep_unroll.specs.declared.slots.Slot.TheVariants.{Every, At, Open}
-use Rattle.ep_unroll.specs.declared.unrolled.Unrolled.{Unrolled}
 
 -- ---- indices as a list of places
 

@@ -1,39 +1,11 @@
 -- The terms of chains of sums and of quantifiers.
-use Rattle.std.proofs.Common.{◌≡◌, ℕ, suc, ◌<◌, Bool, ℤ, pos, List, [], ◌∷◌, length, Some, None, refl, sym, ap, ◌∙◌, arith}
-use Rattle.std.specs.Prelude.{Option, is_some, map, ◌*ℤ◌, ◌+ℤ◌, option_map, option_and_then}
-use Rattle.std.specs.List.{All}
-use Rattle.std.proofs.lemmas.Int.{ints}
-use Rattle.ep_base.specs.Numbers.{all_one, any_one, sum_of}
-use Rattle.ep_base.specs.Options.{on_both}
-use Rattle.ep_base.specs.Reads.{all_there, weighted_sum}
-use Rattle.ep_base.specs.declared.names.Name.{Name}
-use Rattle.ep_base.specs.declared.places.Place.{Place}
+use Rattle.ep_unroll.proofs.Words.{◌≡◌, ℕ, suc, ◌<◌, Bool, ℤ, pos, List, [], ◌∷◌, length, Some, None, refl, sym, ap, ◌∙◌, arith, Option, is_some, map, ◌*ℤ◌, ◌+ℤ◌, option_map, option_and_then, All, ints, all_one, any_one, sum_of, on_both, all_there, weighted_sum, Name, Place, GroundNode, evaluate-chain, Env, all_numbers, all_true, any_true, domain_values, evaluate, number_in, number_value, quantified_value, truth_in, undefined_truth, Terms, chain, ValueTree, all_defined, single, domain_tree, expr_tree, QuantOp, Mode, quantified_by, instance_value, quantified_tree, Quantifier, Grows, Puts, AreInstancesOf, IsTermOf, ArePartial, HasNumber, Numbering, Reading, AreSigned, IsJudged, needed_in}
 use Rattle.ep_ground.specs.Nodes as node
-use Rattle.ep_ground.specs.Nodes.{GroundNode}
 use Rattle.ep_ground.specs.Terms as ground
 use Rattle.ep_ground.specs.Terms.{node_value, term_value, weighed, truth as ground_truth}
-use Rattle.ep_tree.proofs.EvaluationEquations.{evaluate-chain}
-use Rattle.ep_tree.specs.Environments.{Env}
-use Rattle.ep_tree.specs.Evaluation.{all_numbers, all_true, any_true, domain_values, evaluate, number_in, number_value, quantified_value, truth_in, undefined_truth}
-use Rattle.ep_tree.specs.Trees.{Terms, chain}
-use Rattle.ep_tree.specs.Values.{ValueTree, all_defined, single}
-use Rattle.ep_tree.specs.Views.{domain_tree, expr_tree}
-use Rattle.ep_tree.specs.declared.syntax.QuantOp.{QuantOp}
-use Rattle.ep_tree.specs.declared.values.Mode.{Mode}
-use Rattle.ep_eval.proofs.Instances.{quantified_by}
-use Rattle.ep_eval.specs.Instances.{instance_value}
-use Rattle.ep_forms.specs.Forms.{quantified_tree}
-use Rattle.ep_forms.specs.declared.forms.Quantifier.{Quantifier}
 use Rattle.ep_unroll.proofs.FormValues.{grows_on, grown_value, there_defined, truth_told, untold_is}
 use Rattle.ep_unroll.proofs.MeaningSteps.{grows_none}
 use Rattle.ep_unroll.proofs.TruthSteps.{list_there, told_both}
-use Rattle.ep_unroll.specs.Growing.{Grows, Puts}
-use Rattle.ep_unroll.specs.Meanings.{AreInstancesOf, IsTermOf}
-use Rattle.ep_unroll.specs.Needs.{ArePartial}
-use Rattle.ep_unroll.specs.Numbers.{HasNumber}
-use Rattle.ep_unroll.specs.Readings.{Numbering, Reading}
-use Rattle.ep_unroll.specs.Signed.{AreSigned}
-use Rattle.ep_unroll.specs.Truths.{IsJudged, needed_in}
 
 -- a sum is the sum of its parts, each multiplied by its coefficient
 pub weighed_sum : (value : ℕ → Option ℤ) (ps : List (ℤ × ℕ))

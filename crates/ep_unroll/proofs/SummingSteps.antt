@@ -1,22 +1,6 @@
 -- Sums that are gathered, scalar by scalar.
-use Rattle.std.proofs.Common.{◌≡◌, ℕ, ◌+◌, ◌<◌, ◌≤◌, ℤ, pos, ◌+ℤ◌, List, [], ◌∷◌, ◌++◌, length, get_or, take, Some, None, refl, sym, ap, subst, ◌∙◌, arith}
-use Rattle.std.specs.Prelude.{Option, map, option_map}
-use Rattle.std.specs.List.{All}
-use Rattle.std.proofs.lemmas.Int.{ints}
-use Rattle.std.proofs.lemmas.List.{map-append, take_all, take_more}
-use Rattle.std.proofs.lemmas.List.Elements.{All-push}
-use Rattle.ep_base.specs.Numbers.{sum_of}
-use Rattle.ep_base.specs.Reads.{all_there, weighted_sum}
-use Rattle.ep_base.specs.declared.places.Place.{Place}
+use Rattle.ep_unroll.proofs.Words.{◌≡◌, ℕ, ◌+◌, ◌<◌, ◌≤◌, ℤ, pos, ◌+ℤ◌, List, [], ◌∷◌, ◌++◌, length, get_or, take, Some, None, refl, sym, ap, subst, ◌∙◌, arith, Option, map, option_map, All, ints, map-append, take_all, take_more, All-push, sum_of, all_there, weighted_sum, Place, GroundNode, node_value, term_value, weighed, evaluate-folded, Env, folded_value, number_in, scalars_in, ExprTree, folded, single, FoldOp, AddsParts, Grows, Puts, AreTerms, IsTermOf, Means, worth, HasNumber, HaveTerms, Numbering, AddsNumber, plus, total_worth, Unrolled}
 use Rattle.ep_ground.specs.Nodes as node
-use Rattle.ep_ground.specs.Nodes.{GroundNode}
-use Rattle.ep_ground.specs.Terms.{node_value, term_value, weighed}
-use Rattle.ep_tree.proofs.EvaluationEquations.{evaluate-folded}
-use Rattle.ep_tree.specs.Environments.{Env}
-use Rattle.ep_tree.specs.Evaluation.{folded_value, number_in, scalars_in}
-use Rattle.ep_tree.specs.Trees.{ExprTree, folded}
-use Rattle.ep_tree.specs.Values.{single}
-use Rattle.ep_tree.specs.declared.syntax.FoldOp.{FoldOp}
 use Rattle.ep_unroll.proofs.FlatSteps.{flat_numbers, number_at}
 use Rattle.ep_unroll.proofs.FormSteps.{none_known}
 use Rattle.ep_unroll.proofs.FormValues.{grows_long, grows_on}
@@ -24,14 +8,6 @@ use Rattle.ep_unroll.proofs.GrownParts.{have_at, terms_kept, worth_kept}
 use Rattle.ep_unroll.proofs.MatrixSteps.{joined, there_cut, values_kept}
 use Rattle.ep_unroll.proofs.MeaningSteps.{grows_none}
 use Rattle.ep_unroll.proofs.SumValues.{ones_same, weighed_sum}
-use Rattle.ep_unroll.specs.Flats.{AddsParts}
-use Rattle.ep_unroll.specs.Growing.{Grows, Puts}
-use Rattle.ep_unroll.specs.Meanings.{AreTerms, IsTermOf, Means, worth}
-use Rattle.ep_unroll.specs.Numbers.{HasNumber}
-use Rattle.ep_unroll.specs.PartLists.{HaveTerms}
-use Rattle.ep_unroll.specs.Readings.{Numbering}
-use Rattle.ep_unroll.specs.Summing.{AddsNumber, plus, total_worth}
-use Rattle.ep_unroll.specs.declared.unrolled.Unrolled.{Unrolled}
 
 -- ---- sums of lists
 

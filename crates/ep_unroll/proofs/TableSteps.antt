@@ -1,19 +1,8 @@
 -- Where the cells of decision variables begin, and how many there are, one variable after another.
-use Rattle.std.proofs.Common.{◌≡◌, ℕ, zero, suc, subst, ◌+◌, ◌*◌, ◌<◌, ◌≤◌, ℤ, List, [], ◌∷◌, ◌++◌, length, drop, get_or, Some, refl, sym, ap, ◌∙◌, arith}
-use Rattle.std.specs.Prelude.{Option, bytes_eq, if◌then◌else◌, map, sum_by}
-use Rattle.std.proofs.lemmas.List.{at_drop_all, at_drop_more}
-use Rattle.std.proofs.lemmas.List.Sums.{sum_by-cons}
-use Rattle.std.proofs.Math.Nat.{mul_assoc}
-use Rattle.std.proofs.Math.Path.{fun_ext}
-use Rattle.ep_base.specs.declared.names.Name.{Name}
-use Rattle.ep_instance_parts.specs.Instances.{find_of}
+use Rattle.ep_unroll.proofs.Words.{◌≡◌, ℕ, zero, suc, subst, ◌+◌, ◌*◌, ◌<◌, ◌≤◌, ℤ, List, [], ◌∷◌, ◌++◌, length, drop, get_or, Some, refl, sym, ap, ◌∙◌, arith, Option, bytes_eq, if◌then◌else◌, map, sum_by, at_drop_all, at_drop_more, sum_by-cons, mul_assoc, fun_ext, Name, find_of, cell_count, Mode, first_in, numbering, numbering_of, CellTable, FirstCell}
 use Rattle.ep_instance_parts.specs.declared.instances.Find.{Find as CodeFind}
 use Rattle.ep_tree.specs.Binding.{Find}
-use Rattle.ep_tree.specs.Solutions.{cell_count}
-use Rattle.ep_tree.specs.declared.values.Mode.{Mode}
-use Rattle.ep_unroll.specs.Firsts.{first_in, first_of, numbering, numbering_of}
-use Rattle.ep_unroll.specs.declared.firsts.CellTable.{CellTable}
-use Rattle.ep_unroll.specs.declared.firsts.FirstCell.{FirstCell}
+use Rattle.ep_unroll.specs.Firsts.{first_of}
 
 -- the number of a name's first cell, in a list of first cells and then among decision variables that come behind
 unfoldable pub firsts_then : List FirstCell → List Find → ℕ → Name → Option ℕ

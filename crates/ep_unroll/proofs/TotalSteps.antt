@@ -1,13 +1,8 @@
 -- Nodes that have a value whatever their parts are, or where their parts have one.
-use Rattle.std.proofs.Common.{◌≡◌, ℕ, zero, suc, ◌<◌, Bool, ℤ, pos, negsuc, ◌+ℤ◌, ◌-ℤ◌, List, [], ◌∷◌, length, Some, None, refl, sym, ap, subst, ◌∙◌, arith, rules, slice_get, get_or}
-use Rattle.std.specs.Prelude.{IsSome, Option, ◌*ℤ◌, ◌≢◌, map, neg_ℤ, option_and_then, option_map}
-use Rattle.std.specs.List.{All}
-use Rattle.std.proofs.lemmas.Option.{slice_get-get_or}
+use Rattle.ep_unroll.proofs.Words.{◌≡◌, ℕ, zero, suc, ◌<◌, Bool, ℤ, pos, negsuc, ◌+ℤ◌, ◌-ℤ◌, List, [], ◌∷◌, length, Some, None, refl, sym, ap, subst, ◌∙◌, arith, rules, slice_get, get_or, IsSome, Option, ◌*ℤ◌, ◌≢◌, map, neg_ℤ, option_and_then, option_map, All, slice_get-get_or, on_both, all_there, weighted_sum, node_value, term_values_of, weighed}
 use Rattle.ep_base.specs.Numbers as counted
-use Rattle.ep_base.specs.Options.{on_both}
-use Rattle.ep_base.specs.Reads.{all_there, weighted_sum}
 use Rattle.ep_ground.specs.Nodes as node
-use Rattle.ep_ground.specs.Terms.{node_value, truth, term_values_of, weighed}
+use Rattle.ep_ground.specs.Terms.{truth}
 use Rattle.ep_unroll.proofs.NeedSteps.{some_there}
 
 pub some_total : {A : Type 0} (o : Option A) (x : A) → o ≡ Some x → IsSome o

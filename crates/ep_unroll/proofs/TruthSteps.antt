@@ -1,24 +1,7 @@
 -- Truth values in both modes: by what a node says, and by the parts that have to have values.
-use Rattle.std.proofs.Common.{◌≡◌, ℕ, suc, ◌+◌, ◌<◌, ◌≤◌, Bool, true, false, ◌&&◌, ℤ, pos, List, [], ◌∷◌, ◌++◌, length, drop, get_or, Some, None, refl, sym, ap, subst, ◌∙◌, arith}
-use Rattle.std.specs.Prelude.{Option, is_some, map, option_and_then, option_map, if◌then◌else◌, ◌==◌}
-use Rattle.std.specs.List.{All, list_all, list_any}
-use Rattle.std.proofs.lemmas.Bool.Decides.{Decides-eqb}
-use Rattle.std.proofs.lemmas.List.{at_drop_all, at_drop_more}
-use Rattle.ep_base.specs.Numbers.{compare_holds, counts_hold, is_row_of, of_bool, same_numbers, times_in}
-use Rattle.ep_base.specs.Options.{map_both}
-use Rattle.ep_base.specs.Reads.{all_there}
-use Rattle.ep_base.specs.declared.operators.CompareOp.{CompareOp}
+use Rattle.ep_unroll.proofs.Words.{◌≡◌, ℕ, suc, ◌+◌, ◌<◌, ◌≤◌, Bool, true, false, ◌&&◌, ℤ, pos, List, [], ◌∷◌, ◌++◌, length, drop, get_or, Some, None, refl, sym, ap, subst, ◌∙◌, arith, Option, is_some, map, option_and_then, option_map, if◌then◌else◌, ◌==◌, All, list_all, list_any, Decides-eqb, at_drop_all, at_drop_more, compare_holds, counts_hold, is_row_of, of_bool, same_numbers, times_in, map_both, all_there, CompareOp, GroundNode, node_value, term_value, number_in, truth_in, undefined_truth, single, Mode, Puts, ArePartial, HasNumber, only_where, needed_in}
 use Rattle.ep_ground.specs.Nodes as node
-use Rattle.ep_ground.specs.Nodes.{GroundNode}
-use Rattle.ep_ground.specs.Terms.{node_value, term_value, truth}
-use Rattle.ep_tree.specs.Evaluation.{number_in, truth_in, undefined_truth}
-use Rattle.ep_tree.specs.Values.{single}
-use Rattle.ep_tree.specs.declared.values.Mode.{Mode}
-use Rattle.ep_unroll.specs.Growing.{Puts}
-use Rattle.ep_unroll.specs.Needs.{ArePartial}
-use Rattle.ep_unroll.specs.Numbers.{HasNumber}
-use Rattle.ep_unroll.specs.PartReads.{only_where}
-use Rattle.ep_unroll.specs.Truths.{needed_in}
+use Rattle.ep_ground.specs.Terms.{truth}
 
 -- ---- what a truth value needs
 

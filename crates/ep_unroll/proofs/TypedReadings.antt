@@ -1,23 +1,5 @@
 -- The names of a reading stand for values of their types.
-use Rattle.std.proofs.Common.{◌≡◌, Bool, true, false, ◌&&◌, ◌||◌, ℤ, pos, List, [], ◌∷◌, Some, None, refl, sym, ap, subst, ◌∙◌}
-use Rattle.std.specs.Prelude.{Option, option_map, unwrap_or}
-use Rattle.std.specs.List.{list_all}
-use Rattle.std.specs.Ordering.{int_eq}
-use Rattle.std.proofs.lemmas.Bool.Decides.{Decides-int_eq}
-use Rattle.ep_base.specs.Numbers.{is_one, of_bool}
-use Rattle.ep_base.specs.declared.names.Name.{Name}
-use Rattle.ep_size.proofs.FreeParts.{and_other}
-use Rattle.ep_tree.proofs.TypedEvaluation.{domain_typed, put_typed, value_typed}
-use Rattle.ep_tree.specs.Agreement.{Agree, AgreeOn}
-use Rattle.ep_tree.specs.Environments.{Bound, Env, context_of, has_cells, has_domain, has_value, scalar_in, with_number}
-use Rattle.ep_tree.specs.Evaluation.{domain_values, evaluate, type_in}
-use Rattle.ep_tree.specs.Trees.{DomainTree, ExprTree}
-use Rattle.ep_tree.specs.TypedValues.{IsTypedBound, IsTypedEnv, is_number_of}
-use Rattle.ep_tree.specs.Types.{Judged, judge, judge_domain, mistyped, of_scalar, scalar_of, type_from, typed, untyped}
-use Rattle.ep_tree.specs.Values.{single}
-use Rattle.ep_tree.specs.declared.values.Scalar.{Scalar}
-use Rattle.ep_tree.specs.declared.values.ValueType.{ValueType}
-use Rattle.ep_unroll.specs.Readings.{Numbering, Reading}
+use Rattle.ep_unroll.proofs.Words.{◌≡◌, Bool, true, false, ◌&&◌, ◌||◌, ℤ, pos, List, [], ◌∷◌, Some, None, refl, sym, ap, subst, ◌∙◌, Option, option_map, unwrap_or, list_all, int_eq, Decides-int_eq, is_one, of_bool, Name, and_other, domain_typed, put_typed, value_typed, Agree, AgreeOn, Bound, Env, context_of, has_cells, has_domain, has_value, scalar_in, with_number, domain_values, evaluate, type_in, DomainTree, ExprTree, IsTypedBound, IsTypedEnv, is_number_of, Judged, judge, judge_domain, mistyped, of_scalar, scalar_of, type_from, typed, untyped, single, Scalar, ValueType, Numbering, Reading}
 
 and_left : (a b : Bool) → (a && b) ≡ true → a ≡ true
 and_left true b h = refl

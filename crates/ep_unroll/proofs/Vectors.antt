@@ -1,12 +1,6 @@
 -- The cells of decision variables and the numbers of values, as the checker computes them.
-use Rattle.std.proofs.Common.{◌≡◌, pos, true, [], ◌∷◌, refl}
-use Rattle.std.specs.Prelude.{map}
+use Rattle.ep_unroll.proofs.Words.{◌≡◌, pos, true, [], ◌∷◌, refl, map, has_value, matrix, no_values, scalars_of, single, value_and, Scalar, ValueType, bound_numbers, find_cells, found_numbers, index_lists, is_truth}
 use Rattle.ep_tree.specs.Binding.{Find}
-use Rattle.ep_tree.specs.Environments.{has_value}
-use Rattle.ep_tree.specs.Values.{matrix, no_values, scalars_of, single, value_and}
-use Rattle.ep_tree.specs.declared.values.Scalar.{Scalar}
-use Rattle.ep_tree.specs.declared.values.ValueType.{ValueType}
-use Rattle.ep_unroll.specs.Cells.{bound_numbers, find_cells, found_numbers, index_lists, is_truth}
 
 -- without index domains there is one list, and with one that has no number there is none
 lists : map index_lists ([] ∷ ((pos 1 ∷ pos 5 ∷ []) ∷ (pos 0 ∷ pos 2 ∷ []) ∷ []) ∷ ((pos 1 ∷ []) ∷ [] ∷ []) ∷ [])

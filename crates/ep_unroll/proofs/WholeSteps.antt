@@ -1,22 +1,7 @@
 -- Matrices that have a value only where some terms have numbers.
-use Rattle.std.proofs.Common.{◌≡◌, ℕ, ◌+◌, ◌<◌, ℤ, true, false, List, [], ◌∷◌, ◌++◌, length, Some, None, refl, sym, ap, subst, ◌∙◌, append_assoc}
-use Rattle.std.specs.Prelude.{◌≤◌, Option, is_some, map, option_and_then, option_map}
-use Rattle.std.specs.List.{All}
-use Rattle.std.proofs.lemmas.List.{append-nil, map-append}
+use Rattle.ep_unroll.proofs.Words.{◌≡◌, ℕ, ◌+◌, ◌<◌, ℤ, true, false, List, [], ◌∷◌, ◌++◌, length, Some, None, refl, sym, ap, subst, ◌∙◌, append_assoc, ◌≤◌, Option, is_some, map, option_and_then, option_map, All, append-nil, map-append, all_there, values_from-map, GroundNode, node_value, term_value, Env, evaluate, cell_count, ExprTree, Index, ValueTree, all_defined, as_parts, matrix, read_value, single, value_tree, values_from, Expr, Value, Grows, Puts, IsLeft, LeftMeans, AreTerms, Means, worth, AreNeeded, HaveTerms, worths, IsWhole, numbers_of_terms, only_where, parts_worth, AreSlotsOf, slot_index, Numbering, cells_value, each_from, IsWholeOf, Slot, Unrolled, Number, Fixed, Matrix}
 use Rattle.std.specs.declared.alloc.Global.{Global}
 use Rattle.std.specs.declared.vec.Vec.{Vec}
-use Rattle.ep_base.specs.Reads.{all_there}
-use Rattle.ep_eval.proofs.Lists.{values_from-map}
-use Rattle.ep_ground.specs.Nodes.{GroundNode}
-use Rattle.ep_ground.specs.Terms.{node_value, term_value}
-use Rattle.ep_tree.specs.Environments.{Env}
-use Rattle.ep_tree.specs.Evaluation.{evaluate}
-use Rattle.ep_tree.specs.Solutions.{cell_count}
-use Rattle.ep_tree.specs.Trees.{ExprTree}
-use Rattle.ep_tree.specs.Values.{Index, ValueTree, all_defined, as_parts, matrix, read_value, single}
-use Rattle.ep_tree.specs.Views.{value_tree, values_from}
-use Rattle.ep_tree.specs.declared.syntax.Expr.{Expr}
-use Rattle.ep_tree.specs.declared.values.Value.{Value}
 use Rattle.ep_unroll.proofs.FormValues.{grows_long, grows_on}
 use Rattle.ep_unroll.proofs.GrownParts.{have_both, have_one, matrix_terms, matrix_worth, terms_matrix, worth_kept}
 use Rattle.ep_unroll.proofs.LeftSteps.{all_there_are, values_of_all}
@@ -24,17 +9,6 @@ use Rattle.ep_unroll.proofs.MatrixSteps.{values_kept}
 use Rattle.ep_unroll.proofs.MeaningSteps.{grows_none}
 use Rattle.ep_unroll.proofs.ReadValues.{all_defined_are}
 use Rattle.ep_unroll.proofs.PartSteps.{is_worth}
-use Rattle.ep_unroll.specs.Growing.{Grows, Puts}
-use Rattle.ep_unroll.specs.Lefts.{IsLeft, LeftMeans}
-use Rattle.ep_unroll.specs.Meanings.{AreTerms, Means, worth}
-use Rattle.ep_unroll.specs.Needs.{AreNeeded}
-use Rattle.ep_unroll.specs.PartLists.{HaveTerms, worths}
-use Rattle.ep_unroll.specs.PartReads.{IsWhole, numbers_of_terms, only_where, parts_worth}
-use Rattle.ep_unroll.specs.Picks.{AreSlotsOf, slot_index}
-use Rattle.ep_unroll.specs.Readings.{Numbering, cells_value, each_from}
-use Rattle.ep_unroll.specs.Wholes.{IsWholeOf}
-use Rattle.ep_unroll.specs.declared.slots.Slot.{Slot}
-use Rattle.ep_unroll.specs.declared.unrolled.Unrolled.{Unrolled, Number, Fixed, Matrix}
 
 -- ---- parts behind a first one
 

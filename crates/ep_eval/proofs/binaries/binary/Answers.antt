@@ -1,8 +1,4 @@
-use Rattle.std.proofs.Common.{Some, sym, ap, subst, ◌∙◌, arith, w64, to_z, of_z}
-use Rattle.std.proofs.lemmas.Int.{ints, to_z-of_z}
-use Rattle.ep_tree.specs.Evaluation.{binary_number, binary_value, number_in, number_value}
-use Rattle.ep_eval.specs.Counting.{Gives}
-use Rattle.ep_eval.specs.Helds.{seen_held}
+use Rattle.ep_eval.proofs.Words.{Some, sym, ap, subst, ◌∙◌, arith, w64, to_z, of_z, ints, to_z-of_z, binary_number, binary_value, number_in, number_value, Gives, seen_held}
 use Rattle.ep_eval.proofs.Quotients.{binary_first_none, binary_second_none, binary_some}
 use Rattle.ep_eval.proofs.binaries.binary.Goals as goal
 

@@ -1,5 +1,4 @@
-use Rattle.std.proofs.Common.{arith}
-use Rattle.std.proofs.lemmas.Int.{ints}
+use Rattle.ep_eval.proofs.Words.{arith, ints}
 use Rattle.ep_eval.proofs.Reaches.{is_one_word}
 use Rattle.ep_eval.proofs.binaries.is_true.Goals as goal
 

@@ -1,9 +1,4 @@
-use Rattle.std.proofs.Common.{◌≡◌, ap, sym, ◌∙◌, take, arith}
-use Rattle.std.specs.Prelude.{map}
-use Rattle.std.proofs.lemmas.List.{take_all}
-use Rattle.ep_tree.proofs.ViewLemmas.{value_tree-matrix}
-use Rattle.ep_tree.specs.Values.{as_parts, matrix}
-use Rattle.ep_tree.specs.Views.{value_tree, values_from}
+use Rattle.ep_eval.proofs.Words.{◌≡◌, ap, sym, ◌∙◌, take, arith, map, take_all, value_tree-matrix, as_parts, matrix, value_tree, values_from}
 use Rattle.ep_eval.proofs.Lists.{map_more, values_from-map}
 use Rattle.ep_eval.proofs.copies.+copy_value.Goals as goal
 

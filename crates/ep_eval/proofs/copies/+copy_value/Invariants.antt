@@ -1,6 +1,4 @@
-use Rattle.std.proofs.Common.{◌≡◌, take}
-use Rattle.std.specs.Prelude.{map}
-use Rattle.ep_tree.specs.Views.{value_tree}
+use Rattle.ep_eval.proofs.Words.{◌≡◌, take, map, value_tree}
 use Rattle.ep_eval.proofs.copies.+copy_value.Given as goal
 
 abbrev pub invariant-loop-part : goal.invariant-loop-part

@@ -1,8 +1,4 @@
-use Rattle.std.proofs.Common.{ap, sym, ◌∙◌, arith, w64}
-use Rattle.std.proofs.lemmas.Int.{ints, to_z-of_z}
-use Rattle.ep_tree.proofs.ViewLemmas.{value_tree-number}
-use Rattle.ep_tree.specs.Values.{single}
-use Rattle.ep_eval.specs.Helds.{held_value}
+use Rattle.ep_eval.proofs.Words.{ap, sym, ◌∙◌, arith, w64, ints, to_z-of_z, value_tree-number, single, held_value}
 use Rattle.ep_eval.proofs.copies.given_value.Goals as goal
 
 pub returns-in-Number : goal.returns-in-Number

@@ -1,7 +1,5 @@
-use Rattle.std.proofs.Common.{refl}
-use Rattle.std.specs.Prelude.{None}
+use Rattle.ep_eval.proofs.Words.{refl, None, mode_in}
 use Rattle.ep_eval.proofs.MeterSteps.{told_counted, told_limit}
-use Rattle.ep_eval.specs.Scopes.{mode_in}
 use Rattle.ep_eval.proofs.counted.numbers_after.Goals as goal
 
 pub returns-in-Some-clause-cause : goal.returns-in-Some-clause-cause

@@ -1,10 +1,6 @@
-use Rattle.std.proofs.Common.{◌≡◌, ◌≤◌, ◌<◌, refl, arith}
-use Rattle.std.specs.Prelude.{None}
-use Rattle.ep_tree.specs.Measures.{met}
-use Rattle.ep_tree.specs.Views.{expr_tree}
+use Rattle.ep_eval.proofs.Words.{◌≡◌, ◌≤◌, ◌<◌, refl, arith, None, met, expr_tree, env_in, mode_in}
 use Rattle.ep_eval.proofs.Countings.{size_refuses}
 use Rattle.ep_eval.proofs.MeterSteps.{told_counted, told_limit}
-use Rattle.ep_eval.specs.Scopes.{env_in, mode_in}
 use Rattle.ep_eval.proofs.counted.value_after.Goals as goal
 
 pub returns-then-met-gt-MOST_SIZE-clause-cause : goal.returns-then-met-gt-MOST_SIZE-clause-cause

@@ -1,8 +1,4 @@
-use Rattle.std.proofs.Common.{◌≡◌, ◌+◌, ◌<◌, ◌∷◌, [], ℕ, ℤ, List, pos, drop, length, get_or, sym, ap, ◌∙◌, w64, to_z, of_z, arith, rules}
-use Rattle.std.specs.Ordering.{int_eq}
-use Rattle.std.proofs.lemmas.Int.{to_z-of_z}
-use Rattle.std.proofs.lemmas.List.{at_drop_all, at_drop_more}
-use Rattle.ep_base.specs.Numbers.{same_numbers}
+use Rattle.ep_eval.proofs.Words.{◌≡◌, ◌+◌, ◌<◌, ◌∷◌, [], ℕ, ℤ, List, pos, drop, length, get_or, sym, ap, ◌∙◌, w64, to_z, of_z, arith, rules, int_eq, to_z-of_z, at_drop_all, at_drop_more, same_numbers}
 use Rattle.ep_eval.proofs.ListLaws.{same_fails, same_lengths, same_none, same_step}
 use Rattle.ep_eval.proofs.counts.are_same.Goals as goal
 

@@ -1,5 +1,4 @@
-use Rattle.std.proofs.Common.{◌≡◌, drop}
-use Rattle.ep_base.specs.Numbers.{same_numbers}
+use Rattle.ep_eval.proofs.Words.{◌≡◌, drop, same_numbers}
 use Rattle.ep_eval.proofs.counts.are_same.Given as goal
 
 abbrev pub invariant-loop-i : goal.invariant-loop-i

@@ -1,9 +1,4 @@
-use Rattle.std.proofs.Common.{sym, ap, ◌∙◌}
-use Rattle.std.specs.Prelude.{option_map}
-use Rattle.ep_base.specs.Numbers.{counts_hold}
-use Rattle.ep_base.specs.Options.{on_both}
-use Rattle.ep_tree.specs.Evaluation.{scalars_in, truth_in}
-use Rattle.ep_eval.specs.Helds.{seen_held}
+use Rattle.ep_eval.proofs.Words.{sym, ap, ◌∙◌, option_map, counts_hold, on_both, scalars_in, truth_in, seen_held}
 use Rattle.ep_eval.proofs.Defined.{three_none, three_some}
 use Rattle.ep_eval.proofs.counts.counting.Goals as goal
 

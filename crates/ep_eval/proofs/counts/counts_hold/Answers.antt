@@ -1,8 +1,4 @@
-use Rattle.std.proofs.Common.{◌≡◌, ◌+◌, ◌<◌, ◌∷◌, [], ℕ, ℤ, List, pos, drop, length, get_or, sym, ap, ◌∙◌, w64, to_z, of_z, arith, rules}
-use Rattle.std.proofs.lemmas.Int.{to_z-of_z}
-use Rattle.std.proofs.lemmas.List.{at_drop_all, at_drop_more, length-drop}
-use Rattle.ep_base.specs.Numbers.{compare_holds, counts_hold, times_in}
-use Rattle.ep_base.specs.declared.operators.CompareOp.{CompareOp}
+use Rattle.ep_eval.proofs.Words.{◌≡◌, ◌+◌, ◌<◌, ◌∷◌, [], ℕ, ℤ, List, pos, drop, length, get_or, sym, ap, ◌∙◌, w64, to_z, of_z, arith, rules, to_z-of_z, at_drop_all, at_drop_more, length-drop, compare_holds, counts_hold, times_in, CompareOp}
 use Rattle.ep_eval.proofs.ListLaws.{counts_fail, counts_lengths, counts_none, counts_step}
 use Rattle.ep_eval.proofs.counts.counts_hold.Goals as goal
 

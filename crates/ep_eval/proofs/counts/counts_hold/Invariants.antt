@@ -1,5 +1,4 @@
-use Rattle.std.proofs.Common.{◌≡◌, drop}
-use Rattle.ep_base.specs.Numbers.{counts_hold}
+use Rattle.ep_eval.proofs.Words.{◌≡◌, drop, counts_hold}
 use Rattle.ep_eval.proofs.counts.counts_hold.Given as goal
 
 abbrev pub invariant-loop-i : goal.invariant-loop-i

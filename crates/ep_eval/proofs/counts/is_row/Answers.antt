@@ -1,7 +1,5 @@
-use Rattle.std.proofs.Common.{◌≡◌, ◌+◌, ◌∷◌, ℕ, ℤ, List, drop, length, sym, ap, ◌∙◌, rules, vec_len, Vec, Global}
-use Rattle.std.specs.Prelude.{map, option_map, ◌||◌}
-use Rattle.std.proofs.lemmas.List.{drop_all, drop_more}
-use Rattle.ep_base.specs.Numbers.{is_row_of, same_numbers}
+use Rattle.ep_eval.proofs.Words.{◌≡◌, ◌+◌, ◌∷◌, ℕ, ℤ, List, drop, length, sym, ap, ◌∙◌, rules, vec_len, map, option_map, ◌||◌, drop_all, drop_more, is_row_of, same_numbers}
+use Rattle.std.proofs.Common.{Vec, Global}
 use Rattle.ep_eval.proofs.ListLaws.{row_begins, row_fails, row_none, row_step}
 use Rattle.ep_eval.proofs.counts.is_row.Goals as goal
 

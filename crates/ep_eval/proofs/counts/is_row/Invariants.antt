@@ -1,6 +1,4 @@
-use Rattle.std.proofs.Common.{◌≡◌, drop}
-use Rattle.std.specs.Prelude.{map, option_map, ◌||◌}
-use Rattle.ep_base.specs.Numbers.{is_row_of}
+use Rattle.ep_eval.proofs.Words.{◌≡◌, drop, map, option_map, ◌||◌, is_row_of}
 use Rattle.ep_eval.proofs.counts.is_row.Given as goal
 
 abbrev pub invariant-loop-row : goal.invariant-loop-row

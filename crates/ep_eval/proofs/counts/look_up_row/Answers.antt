@@ -1,8 +1,4 @@
-use Rattle.std.proofs.Common.{sym, ap, ◌∙◌}
-use Rattle.std.specs.Prelude.{map, option_map}
-use Rattle.ep_base.specs.Numbers.{is_row_of}
-use Rattle.ep_tree.specs.Evaluation.{rows_in, scalars_in, truth_in}
-use Rattle.ep_eval.specs.Helds.{seen_held}
+use Rattle.ep_eval.proofs.Words.{sym, ap, ◌∙◌, map, option_map, is_row_of, rows_in, scalars_in, truth_in, seen_held}
 use Rattle.ep_eval.proofs.Defined.{on_first_none, on_second_none, on_some}
 use Rattle.ep_eval.proofs.counts.look_up_row.Goals as goal
 

@@ -1,6 +1,4 @@
-use Rattle.std.proofs.Common.{◌≡◌, ◌+ℤ◌, ℕ, ℤ, List, pos, get_or, sym, ap, ◌∙◌, w64, to_z, of_z, arith, rules}
-use Rattle.std.specs.Ordering.{int_eq}
-use Rattle.std.proofs.lemmas.Int.{ints, to_z-of_z}
+use Rattle.ep_eval.proofs.Words.{◌≡◌, ◌+ℤ◌, ℕ, ℤ, List, pos, get_or, sym, ap, ◌∙◌, w64, to_z, of_z, arith, rules, int_eq, ints, to_z-of_z}
 use Rattle.ep_eval.proofs.ListLaws.{times_more, times_none, times_same}
 use Rattle.ep_eval.proofs.counts.times.Goals as goal
 

@@ -1,5 +1,4 @@
-use Rattle.std.proofs.Common.{◌≡◌, ◌≤ℤ◌, pos, take}
-use Rattle.ep_base.specs.Numbers.{times_in}
+use Rattle.ep_eval.proofs.Words.{◌≡◌, ◌≤ℤ◌, pos, take, times_in}
 use Rattle.ep_eval.proofs.counts.times.Given as goal
 
 abbrev pub invariant-loop-part : goal.invariant-loop-part

@@ -1,6 +1,4 @@
-use Rattle.std.proofs.Common.{sym, ap, ◌∙◌}
-use Rattle.std.specs.Prelude.{option_map}
-use Rattle.ep_base.specs.Numbers.{counts_hold}
+use Rattle.ep_eval.proofs.Words.{sym, ap, ◌∙◌, option_map, counts_hold}
 use Rattle.ep_eval.proofs.Defined.{on_first_none, on_second_none, on_some}
 use Rattle.ep_eval.proofs.counts.told.Goals as goal
 

@@ -1,10 +1,5 @@
-use Rattle.std.proofs.Common.{subst, sym}
-use Rattle.ep_tree.specs.Environments.{HasAscendingDomain, has_value, with_number}
-use Rattle.ep_tree.specs.Types.{of_scalar}
-use Rattle.ep_tree.specs.Values.{single}
+use Rattle.ep_eval.proofs.Words.{subst, sym, HasAscendingDomain, has_value, with_number, of_scalar, single, HasAscendingDomains, with_all}
 use Rattle.ep_eval.proofs.KnownNames.{kept_by}
-use Rattle.ep_eval.specs.Known.{HasAscendingDomains}
-use Rattle.ep_eval.specs.Scopes.{with_all}
 use Rattle.ep_eval.proofs.domains.+ascends.Goals as goal
 
 pub returns-in-Nothing : goal.returns-in-Nothing

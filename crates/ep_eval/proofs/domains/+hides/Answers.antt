@@ -1,10 +1,4 @@
-use Rattle.std.proofs.Common.{ap, sym, ◌∙◌, Some}
-use Rattle.std.specs.Prelude.{if◌then◌else◌}
-use Rattle.ep_tree.specs.Environments.{has_value, with_number}
-use Rattle.ep_tree.specs.Types.{of_scalar}
-use Rattle.ep_tree.specs.Values.{single}
-use Rattle.ep_eval.specs.Bounds.{only_domain}
-use Rattle.ep_eval.specs.Scopes.{with_all}
+use Rattle.ep_eval.proofs.Words.{ap, sym, ◌∙◌, Some, if◌then◌else◌, has_value, with_number, of_scalar, single, only_domain, with_all}
 use Rattle.ep_eval.proofs.domains.+hides.Goals as goal
 
 pub returns-in-Nothing : goal.returns-in-Nothing

@@ -1,10 +1,5 @@
-use Rattle.std.proofs.Common.{ap, sym, ◌∙◌, None, option_map}
-use Rattle.std.specs.Prelude.{if◌then◌else◌}
-use Rattle.ep_tree.specs.Environments.{domain_bound}
+use Rattle.ep_eval.proofs.Words.{ap, sym, ◌∙◌, None, option_map, if◌then◌else◌, domain_bound, domain_of, only_domain, env_of, env_in}
 use Rattle.ep_eval.proofs.RangeNumbers.{only_domain-numbers}
-use Rattle.ep_eval.specs.Bounds.{domain_of, only_domain}
-use Rattle.ep_eval.specs.Known.{env_of}
-use Rattle.ep_eval.specs.Scopes.{env_in}
 use Rattle.ep_eval.proofs.domains.named_numbers.Goals as goal
 
 pub returns-then-hides : goal.returns-then-hides

@@ -1,4 +1,4 @@
-use Rattle.std.proofs.Common.{Some, ap, ◌∙◌, arith, length, ◌≡◌, ◌≢◌}
+use Rattle.ep_eval.proofs.Words.{Some, ap, ◌∙◌, arith, length, ◌≡◌, ◌≢◌}
 use Rattle.ep_eval.proofs.RangeNumbers.{matrix_domain_has_none, scalar_domain}
 use Rattle.ep_eval.proofs.domains.scalar_numbers.Goals as goal
 

@@ -1,6 +1,5 @@
-use Rattle.std.proofs.Common.{ap, sym, ◌∙◌, option_map}
+use Rattle.ep_eval.proofs.Words.{ap, sym, ◌∙◌, option_map, runs_have}
 use Rattle.ep_eval.proofs.RangeNumbers.{none_is, set_is}
-use Rattle.ep_eval.specs.Ranges.{runs_have}
 use Rattle.ep_eval.proofs.domains.set_of.Goals as goal
 
 pub returns-in_ok-set-in-Some : goal.returns-in_ok-set-in-Some

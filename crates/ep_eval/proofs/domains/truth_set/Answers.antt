@@ -1,5 +1,4 @@
-use Rattle.std.proofs.Common.{[], ◌∷◌, ◌++◌, List, pos, ap, ◌∙◌}
-use Rattle.ep_base.specs.declared.run_lists.Run.{Run}
+use Rattle.ep_eval.proofs.Words.{[], ◌∷◌, ◌++◌, List, pos, ap, ◌∙◌, Run}
 use Rattle.ep_eval.proofs.RangeNumbers.{truths_are}
 use Rattle.ep_eval.proofs.domains.truth_set.Goals as goal
 

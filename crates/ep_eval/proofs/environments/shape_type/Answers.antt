@@ -1,5 +1,4 @@
-use Rattle.std.proofs.Common.{ap, ◌∙◌, arith, length, ◌≡◌, ◌≢◌}
-use Rattle.ep_tree.specs.declared.values.ValueType.{ValueType}
+use Rattle.ep_eval.proofs.Words.{ap, ◌∙◌, arith, length, ◌≡◌, ◌≢◌, ValueType}
 use Rattle.ep_eval.proofs.JudgingForms.{shape_matrix, shape_scalar}
 use Rattle.ep_eval.proofs.environments.shape_type.Goals as goal
 

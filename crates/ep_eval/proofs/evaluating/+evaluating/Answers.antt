@@ -1,27 +1,4 @@
-use Rattle.std.proofs.Common.{refl, ◌≡◌, ◌≤◌, ◌+◌, Bool, ◌∷◌, ℕ, ℤ, List, drop, length, subst, [], ap, sym, ◌∙◌, arith, Some, None, Option, w64, to_z, of_z, ◌++◌}
-use Rattle.std.specs.Prelude.{flat_map, map, option_map, true, false, unwrap_or}
-use Rattle.std.proofs.lemmas.Int.{to_z-of_z, ints}
-use Rattle.std.proofs.lemmas.List.{drop_all, drop_more}
-use Rattle.ep_base.specs.Options.{map_both}
-use Rattle.ep_base.specs.declared.run_lists.Run.{Run}
-use Rattle.ep_forms.proofs.Depths.{deeper, first_generator, first_within, second_within}
-use Rattle.ep_forms.specs.Forms.{form_tree, index_at, quantified_tree}
-use Rattle.ep_forms.specs.Ranks.{IsBelow, depth_of, end_depth, generators_depth, index_depth, listing_depth}
-use Rattle.ep_tree.proofs.EvaluationEquations.{evaluate-named, evaluate-number, evaluate-truth}
-use Rattle.ep_tree.proofs.SortedDomains.{domain_values-ascend}
-use Rattle.ep_tree.proofs.ViewLemmas.{domain_kind_tree-bool, domain_kind_tree-group, domain_kind_tree-int, domain_kind_tree-matrix, domain_kind_tree-named, domain_kind_tree-ranges, domain_kind_tree-set}
-use Rattle.ep_tree.specs.Domains.{set_values}
-use Rattle.ep_tree.specs.Environments.{scalar_in, with_number}
-use Rattle.ep_tree.specs.Evaluation.{domain_values, end_value, evaluate, index_values, number_in, range_values, signed}
-use Rattle.ep_tree.specs.Measures.{met, met_domain}
-use Rattle.ep_tree.specs.Trees.{bool, group_domain, int, matrix_domain, named_domain, no_generators, ranges, set_domain}
-use Rattle.ep_tree.specs.Values.{single}
-use Rattle.ep_tree.specs.Views.{domain_kind_tree, domain_tree, domains_of, end_of, expr_tree, expr_trees, generators_of, indices_of, ranges_of, terms_of, value_tree}
-use Rattle.ep_tree.specs.declared.syntax.Domain.{Domain, size-Domain}
-use Rattle.ep_tree.specs.declared.syntax.Expr.{Expr, size-Expr}
-use Rattle.ep_tree.specs.declared.syntax.Generator.{size-Generator}
-use Rattle.ep_tree.specs.declared.syntax.Range.{Range, size-Range}
-use Rattle.ep_tree.specs.declared.values.Value.{Value}
+use Rattle.ep_eval.proofs.Words.{refl, ◌≡◌, ◌≤◌, ◌+◌, Bool, ◌∷◌, ℕ, ℤ, List, drop, length, subst, [], ap, sym, ◌∙◌, arith, Some, None, Option, w64, to_z, of_z, ◌++◌, flat_map, map, option_map, true, false, unwrap_or, to_z-of_z, ints, drop_all, drop_more, map_both, Run, deeper, first_generator, first_within, second_within, form_tree, index_at, quantified_tree, IsBelow, depth_of, end_depth, generators_depth, index_depth, listing_depth, evaluate-named, evaluate-number, evaluate-truth, domain_values-ascend, domain_kind_tree-bool, domain_kind_tree-group, domain_kind_tree-int, domain_kind_tree-matrix, domain_kind_tree-named, domain_kind_tree-ranges, domain_kind_tree-set, set_values, scalar_in, with_number, domain_values, end_value, evaluate, index_values, number_in, range_values, signed, met, met_domain, bool, group_domain, int, matrix_domain, named_domain, no_generators, ranges, set_domain, single, domain_kind_tree, domain_tree, domains_of, end_of, expr_tree, expr_trees, generators_of, indices_of, ranges_of, terms_of, value_tree, Domain, size-Domain, Expr, size-Expr, size-Generator, Range, size-Range, Value, together, gathered_of, worth, nodes_at, nodes_of, parts_at, parts_of, ranging_over, some_joined, held_value, seen_held, instance_env, instance_nodes, instance_value, env_of, listed_in, Told, alone, has_in, run_has, with_index, env_in, mode_in, with_all, IsWalkBehind, before_rest, numbers_left, most}
 use Rattle.ep_eval.proofs.ArmSteps.{at_tree, chain_told, counts_told, literal_told, named_told, number_told, one_told, read_told, truth_told, truths_told, two_told, within_told}
 use Rattle.ep_eval.proofs.GeneratingDepths.{ends_within}
 use Rattle.ep_eval.proofs.GeneratingSteps.{before_others, comprehension_told, conditions_stop, generators_first, generators_none, listed_begins, listed_ends, listed_goes_on, lost_behind, lost_part_told, name_stops, name_told, no_part_told, nodes_bare, nodes_part, part_told, values_bare, values_part}
@@ -36,20 +13,7 @@ use Rattle.ep_eval.proofs.RangeNumbers.{RunsSoFar, alone-one, alone-span, end_va
 use Rattle.ep_eval.proofs.SetForms.{domains_begin, domains_end, domains_more}
 use Rattle.ep_eval.proofs.TermSteps.{AddsUp, total_begins, total_ends, total_goes_on}
 use Rattle.ep_eval.proofs.WalkSteps.{no_runs}
-use Rattle.ep_eval.specs.Counting.{together}
-use Rattle.ep_eval.specs.Gathering.{gathered_of, worth}
-use Rattle.ep_eval.specs.Generating.{nodes_at, nodes_of, parts_at, parts_of, ranging_over, some_joined}
-use Rattle.ep_eval.specs.Helds.{held_value, seen_held}
-use Rattle.ep_eval.specs.Instances.{instance_env, instance_nodes, instance_value}
-use Rattle.ep_eval.specs.Known.{env_of}
-use Rattle.ep_eval.specs.Literals.{listed_in}
-use Rattle.ep_eval.specs.Meters.{Told}
-use Rattle.ep_eval.specs.Ranges.{alone, has_in, run_has}
-use Rattle.ep_eval.specs.Reading.{with_index}
-use Rattle.ep_eval.specs.Scopes.{env_in, mode_in, with_all}
-use Rattle.ep_eval.specs.Walking.{IsWalkBehind, before_rest, numbers_left}
 use Rattle.ep_eval.proofs.evaluating.+evaluating.Goals as goal
-use denote.Param.Weighed.{most}
 
 pub truths-loop-part-init : goal.truths-loop-part-init
 truths-loop-part-init t c =

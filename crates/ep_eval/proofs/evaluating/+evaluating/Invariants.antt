@@ -1,7 +1,4 @@
-use Rattle.std.proofs.Common.{◌+◌, ◌*◌, drop, length, option_map}
-use Rattle.ep_base.specs.declared.places.Place.{Place}
-use Rattle.ep_tree.specs.declared.syntax.Expr.{size-Expr}
-use Rattle.ep_forms.specs.Ranks.{depth_of, end_depth, generators_depth, index_depth, listing_depth, walk_rank}
+use Rattle.ep_eval.proofs.Words.{◌+◌, ◌*◌, drop, length, option_map, Place, size-Expr, depth_of, end_depth, generators_depth, index_depth, listing_depth, walk_rank, nodes_at, parts_at, instance_nodes, instance_value, listed_in, env_in, mode_in, IsWalk, numbers_left, most}
 use Rattle.ep_eval.proofs.GeneratingDepths.{ranging_depth}
 use Rattle.ep_eval.proofs.GeneratingSteps.{ListedSoFar}
 use Rattle.ep_eval.proofs.IndexSteps.{IndicesSoFar}
@@ -11,13 +8,7 @@ use Rattle.ep_eval.proofs.PartSteps.{TruthsSoFar}
 use Rattle.ep_eval.proofs.RangeNumbers.{RunsSoFar}
 use Rattle.ep_eval.proofs.SetForms.{DomainsSoFar}
 use Rattle.ep_eval.proofs.TermSteps.{TotalSoFar}
-use Rattle.ep_eval.specs.Generating.{nodes_at, parts_at}
-use Rattle.ep_eval.specs.Instances.{instance_nodes, instance_value}
-use Rattle.ep_eval.specs.Literals.{listed_in}
-use Rattle.ep_eval.specs.Scopes.{env_in, mode_in}
-use Rattle.ep_eval.specs.Walking.{IsWalk, numbers_left}
 use Rattle.ep_eval.proofs.evaluating.+evaluating.Given as goal
-use denote.Param.Weighed.{most}
 
 -- ---- what gets smaller
 

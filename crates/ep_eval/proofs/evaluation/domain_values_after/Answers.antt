@@ -1,10 +1,4 @@
-use Rattle.std.proofs.Common.{◌+◌, ◌<◌, length, arith, sym}
-use Rattle.std.proofs.lemmas.Result.{err_from_is_err_and}
-use Rattle.ep_tree.specs.Limits.{MOST_SIZE}
-use Rattle.ep_tree.specs.Measures.{met_domain}
-use Rattle.ep_tree.specs.Views.{domain_tree}
-use Rattle.ep_eval.specs.Known.{env_of}
-use Rattle.ep_eval.specs.Scopes.{with_all}
+use Rattle.ep_eval.proofs.Words.{◌+◌, ◌<◌, length, arith, sym, err_from_is_err_and, MOST_SIZE, met_domain, domain_tree, env_of, with_all}
 use Rattle.ep_eval.proofs.Countings.{counted_domain_is, size_refuses}
 use Rattle.ep_eval.proofs.evaluation.domain_values_after.Goals as goal
 

@@ -1,9 +1,4 @@
-use Rattle.std.proofs.Common.{sym, ◌∙◌}
-use Rattle.std.proofs.lemmas.Result.{err_from_is_err_and}
-use Rattle.ep_tree.specs.Views.{expr_tree}
-use Rattle.ep_eval.specs.Known.{env_of}
-use Rattle.ep_eval.specs.Outcomes.{seen_value}
-use Rattle.ep_eval.specs.Scopes.{with_all}
+use Rattle.ep_eval.proofs.Words.{sym, ◌∙◌, err_from_is_err_and, expr_tree, env_of, seen_value, with_all}
 use Rattle.ep_eval.proofs.Countings.{counted_value_is}
 use Rattle.ep_eval.proofs.evaluation.evaluate_after.Goals as goal
 

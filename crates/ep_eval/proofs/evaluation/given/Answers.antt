@@ -1,6 +1,4 @@
-use Rattle.std.proofs.Common.{ap, sym, ◌∙◌, Some}
-use Rattle.ep_eval.specs.Helds.{seen_held}
-use Rattle.ep_eval.specs.Outcomes.{seen_value}
+use Rattle.ep_eval.proofs.Words.{ap, sym, ◌∙◌, Some, seen_held, seen_value}
 use Rattle.ep_eval.proofs.evaluation.given.Goals as goal
 
 pub returns-in_ok-value-in-Some : goal.returns-in_ok-value-in-Some

@@ -1,13 +1,4 @@
-use Rattle.std.proofs.Common.{ap, ◌∙◌, option_map}
-use Rattle.std.specs.Prelude.{unwrap_or}
-use Rattle.ep_tree.specs.Environments.{context_of, scalar_in}
-use Rattle.ep_tree.specs.Types.{scalar_of}
-use Rattle.ep_tree.specs.Views.{domain_tree}
-use Rattle.ep_tree.specs.declared.values.Scalar.{Scalar}
-use Rattle.ep_eval.specs.Judging.{domain_type_at}
-use Rattle.ep_eval.specs.Known.{env_of}
-use Rattle.ep_eval.specs.Scopes.{with_all}
-use Rattle.ep_eval.specs.Typing.{with_typed}
+use Rattle.ep_eval.proofs.Words.{ap, ◌∙◌, option_map, unwrap_or, context_of, scalar_in, scalar_of, domain_tree, Scalar, domain_type_at, env_of, with_all, with_typed}
 use Rattle.ep_eval.proofs.evaluation.scalar_in.Goals as goal
 
 pub returns : goal.returns

@@ -1,4 +1,4 @@
-use Rattle.ep_eval.specs.Scopes.{with_all}
+use Rattle.ep_eval.proofs.Words.{with_all}
 use Rattle.ep_eval.proofs.evaluation.type_in.Goals as goal
 
 pub returns : goal.returns

@@ -1,12 +1,4 @@
-use Rattle.std.proofs.Common.{ap, ◌∙◌}
-use Rattle.std.specs.Prelude.{unwrap_or}
-use Rattle.ep_tree.specs.Environments.{context_of}
-use Rattle.ep_tree.specs.Evaluation.{type_in}
-use Rattle.ep_tree.specs.Views.{expr_tree}
-use Rattle.ep_tree.specs.declared.values.ValueType.{ValueType}
-use Rattle.ep_eval.specs.Judging.{type_at}
-use Rattle.ep_eval.specs.Scopes.{env_in}
-use Rattle.ep_eval.specs.Typing.{with_typed}
+use Rattle.ep_eval.proofs.Words.{ap, ◌∙◌, unwrap_or, context_of, type_in, expr_tree, ValueType, type_at, env_in, with_typed}
 use Rattle.ep_eval.proofs.evaluation.type_within.Goals as goal
 
 pub returns : goal.returns

@@ -1,10 +1,4 @@
-use Rattle.std.proofs.Common.{sym, subst, refl}
-use Rattle.ep_eval.specs.Helds.{seen_held}
-use Rattle.ep_eval.specs.Meters.{IsWorth}
-use Rattle.ep_eval.specs.Worths.{one_numbers, one_value}
-use Rattle.ep_eval.specs.Folding.{folded_numbers}
-use Rattle.ep_tree.specs.Evaluation.{scalars_in}
-use Rattle.ep_eval.specs.declared.worth.Worth.TheVariants.{Seen}
+use Rattle.ep_eval.proofs.Words.{sym, subst, refl, seen_held, IsWorth, one_numbers, one_value, folded_numbers, scalars_in, Seen}
 use Rattle.ep_eval.proofs.WorthSteps.{far_fold, worth_gives, worth_gives_at, worth_seen}
 use Rattle.ep_eval.proofs.families.one_value.Goals as goal
 

@@ -1,8 +1,4 @@
-use Rattle.std.proofs.Common.{sym, subst}
-use Rattle.ep_eval.specs.Helds.{seen_held}
-use Rattle.ep_eval.specs.Meters.{IsWorth}
-use Rattle.ep_eval.specs.Worths.{own_number, two_value}
-use Rattle.ep_eval.specs.declared.worth.Worth.TheVariants.{Seen}
+use Rattle.ep_eval.proofs.Words.{sym, subst, seen_held, IsWorth, own_number, two_value, Seen}
 use Rattle.ep_eval.proofs.WorthSteps.{worth_gives, worth_seen}
 use Rattle.ep_eval.proofs.families.two_value.Goals as goal
 

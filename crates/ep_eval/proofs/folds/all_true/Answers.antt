@@ -1,7 +1,4 @@
-use Rattle.std.proofs.Common.{◌≡◌, ◌+◌, ℕ, ℤ, List, pos, drop, get_or, sym, ap, ◌∙◌, w64, to_z, of_z, rules}
-use Rattle.std.proofs.lemmas.Int.{to_z-of_z}
-use Rattle.std.proofs.lemmas.List.{at_drop_all, at_drop_more}
-use Rattle.ep_base.specs.Numbers.{all_one, is_one}
+use Rattle.ep_eval.proofs.Words.{◌≡◌, ◌+◌, ℕ, ℤ, List, pos, drop, get_or, sym, ap, ◌∙◌, w64, to_z, of_z, rules, to_z-of_z, at_drop_all, at_drop_more, all_one, is_one}
 use Rattle.ep_eval.proofs.ListLaws.{all_fails, all_none, all_step}
 use Rattle.ep_eval.proofs.folds.all_true.Goals as goal
 

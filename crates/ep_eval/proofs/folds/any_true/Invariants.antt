@@ -1,5 +1,4 @@
-use Rattle.std.proofs.Common.{◌≡◌, drop}
-use Rattle.ep_base.specs.Numbers.{any_one}
+use Rattle.ep_eval.proofs.Words.{◌≡◌, drop, any_one}
 use Rattle.ep_eval.proofs.folds.any_true.Given as goal
 
 abbrev pub invariant-loop-part : goal.invariant-loop-part

@@ -1,7 +1,4 @@
-use Rattle.std.proofs.Common.{sym, ap, ◌∙◌}
-use Rattle.std.specs.Prelude.{Ok, option_map}
-use Rattle.ep_tree.specs.Evaluation.{scalars_in}
-use Rattle.ep_eval.specs.Helds.{seen_held}
+use Rattle.ep_eval.proofs.Words.{sym, ap, ◌∙◌, Ok, option_map, scalars_in, seen_held}
 use Rattle.ep_eval.proofs.FoldGiven.{gives_none}
 use Rattle.ep_eval.proofs.folds.folded.Goals as goal
 

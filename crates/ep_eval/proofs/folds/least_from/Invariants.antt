@@ -1,5 +1,4 @@
-use Rattle.std.proofs.Common.{◌≡◌, take, fold}
-use Rattle.std.specs.Int.{int_min}
+use Rattle.ep_eval.proofs.Words.{◌≡◌, take, fold, int_min}
 use Rattle.ep_eval.proofs.folds.least_from.Given as goal
 
 abbrev pub invariant-loop-other : goal.invariant-loop-other

@@ -1,10 +1,4 @@
-use Rattle.std.proofs.Common.{Some, ap, subst, ◌∙◌, arith}
-use Rattle.std.specs.Prelude.{Ok}
-use Rattle.std.specs.Int.{w128}
-use Rattle.std.proofs.lemmas.Int.{ints, to_z-of_z}
-use Rattle.ep_tree.specs.Evaluation.{number_value, truth_in}
-use Rattle.ep_tree.specs.Values.{single}
-use Rattle.ep_eval.specs.Counting.{Gives}
+use Rattle.ep_eval.proofs.Words.{Some, ap, subst, ◌∙◌, arith, Ok, w128, ints, to_z-of_z, number_value, truth_in, single, Gives}
 use Rattle.ep_eval.proofs.FoldGiven.{gives_and, gives_max, gives_min, gives_or, gives_product, gives_sum}
 use Rattle.ep_eval.proofs.folds.of_parts.Goals as goal
 

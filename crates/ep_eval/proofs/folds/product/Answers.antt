@@ -1,12 +1,4 @@
-use Rattle.std.proofs.Common.{◌≡◌, ◌+◌, ◌*ℤ◌, ℕ, ℤ, List, pos, false, drop, get_or, refl, sym, ap, ◌∙◌, w64, to_z, of_z, arith, rules, SFits}
-use Rattle.std.specs.Int.{w128}
-use Rattle.std.specs.List.{list_any}
-use Rattle.std.proofs.lemmas.Int.{ints, to_z-of_z}
-use Rattle.std.proofs.lemmas.List.{at_drop_all, at_drop_more}
-use Rattle.ep_base.specs.Numbers.{product_of}
-use Rattle.ep_base.specs.Reads.{is_too_far}
-use Rattle.ep_tree.specs.Limits.{products_from}
-use Rattle.ep_numbers.proofs.PowerLaws.{near_one, times_fits}
+use Rattle.ep_eval.proofs.Words.{◌≡◌, ◌+◌, ◌*ℤ◌, ℕ, ℤ, List, pos, false, drop, get_or, refl, sym, ap, ◌∙◌, w64, to_z, of_z, arith, rules, SFits, w128, list_any, ints, to_z-of_z, at_drop_all, at_drop_more, product_of, is_too_far, products_from, near_one, times_fits}
 use Rattle.ep_eval.proofs.Products.{far_ends, far_step, far_there, product_begins, product_ends, product_given, product_step}
 use Rattle.ep_eval.proofs.folds.product.Goals as goal
 

@@ -1,8 +1,4 @@
-use Rattle.std.proofs.Common.{◌≡◌, ◌*ℤ◌, pos, false, drop}
-use Rattle.std.specs.List.{list_any}
-use Rattle.ep_base.specs.Numbers.{product_of}
-use Rattle.ep_base.specs.Reads.{is_too_far}
-use Rattle.ep_tree.specs.Limits.{products_from}
+use Rattle.ep_eval.proofs.Words.{◌≡◌, ◌*ℤ◌, pos, false, drop, list_any, product_of, is_too_far, products_from}
 use Rattle.ep_eval.proofs.folds.product.Given as goal
 
 abbrev pub invariant-loop-part : goal.invariant-loop-part

@@ -1,8 +1,4 @@
-use Rattle.std.proofs.Common.{◌≡◌, ◌+◌, ◌+ℤ◌, ℕ, ℤ, List, pos, drop, get_or, ap, ◌∙◌, w64, to_z, of_z, arith, rules, SFits}
-use Rattle.std.specs.Int.{w128}
-use Rattle.std.proofs.lemmas.Int.{ints, to_z-of_z}
-use Rattle.std.proofs.lemmas.List.{at_drop_all, at_drop_more}
-use Rattle.ep_base.specs.Numbers.{sum_of}
+use Rattle.ep_eval.proofs.Words.{◌≡◌, ◌+◌, ◌+ℤ◌, ℕ, ℤ, List, pos, drop, get_or, ap, ◌∙◌, w64, to_z, of_z, arith, rules, SFits, w128, ints, to_z-of_z, at_drop_all, at_drop_more, sum_of}
 use Rattle.ep_eval.proofs.Sums.{sum_ends, sum_near, sum_step}
 use Rattle.ep_eval.proofs.folds.sum.Goals as goal
 

@@ -1,6 +1,4 @@
-use Rattle.std.proofs.Common.{◌≡◌, ◌+ℤ◌, ◌≤◌, ◌*◌, drop}
-use Rattle.std.specs.Prelude.{unsigned_abs}
-use Rattle.ep_base.specs.Numbers.{sum_of}
+use Rattle.ep_eval.proofs.Words.{◌≡◌, ◌+ℤ◌, ◌≤◌, ◌*◌, drop, unsigned_abs, sum_of}
 use Rattle.ep_eval.proofs.folds.sum.Given as goal
 
 abbrev pub invariant-loop-part : goal.invariant-loop-part

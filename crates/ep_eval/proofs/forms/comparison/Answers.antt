@@ -1,8 +1,4 @@
-use Rattle.std.proofs.Common.{ap, sym, Some, ◌∙◌, arith, w64, to_z, of_z}
-use Rattle.std.proofs.lemmas.Int.{ints, to_z-of_z}
-use Rattle.ep_base.specs.Numbers.{compare_holds}
-use Rattle.ep_tree.specs.Evaluation.{number_in, truth_in}
-use Rattle.ep_eval.specs.Helds.{seen_held}
+use Rattle.ep_eval.proofs.Words.{ap, sym, Some, ◌∙◌, arith, w64, to_z, of_z, ints, to_z-of_z, compare_holds, number_in, truth_in, seen_held}
 use Rattle.ep_eval.proofs.Both.{both_some, first_none, second_none}
 use Rattle.ep_eval.proofs.forms.comparison.Goals as goal
 

@@ -1,6 +1,4 @@
-use Rattle.std.proofs.Common.{ap, sym, ◌∙◌}
-use Rattle.ep_tree.specs.Evaluation.{truth_in, undefined_truth}
-use Rattle.ep_base.specs.Numbers.{of_bool}
+use Rattle.ep_eval.proofs.Words.{ap, sym, ◌∙◌, truth_in, undefined_truth, of_bool}
 use Rattle.ep_eval.proofs.forms.truth_value.Goals as goal
 
 pub returns-in-Some : goal.returns-in-Some

@@ -1,13 +1,6 @@
-use Rattle.std.proofs.Common.{ap, ◌∙◌, ◌+◌, sym, subst}
-use Rattle.std.specs.Prelude.{option_map}
-use Rattle.ep_base.specs.Options.{map_both}
+use Rattle.ep_eval.proofs.Words.{ap, ◌∙◌, ◌+◌, sym, subst, option_map, map_both, together, seen_held, signed, true, ◌+ℤ◌}
 use Rattle.ep_eval.proofs.Instances.{more_number, more_truth, small_is_total, small_total_is, truths_are_small}
-use Rattle.ep_eval.specs.Counting.{together}
-use Rattle.ep_eval.specs.Helds.{seen_held}
-use Rattle.ep_tree.specs.Evaluation.{signed}
 use Rattle.ep_eval.proofs.gathering.with_seen.Goals as goal
-use Rattle.std.specs.Prelude.{true}
-use Rattle.std.proofs.Common.{◌+ℤ◌}
 
 pub returns-in-Truths : goal.returns-in-Truths
 returns-in-Truths c most b h = (

@@ -1,7 +1,4 @@
-use Rattle.std.proofs.Common.{Some, w64, sym, ap, ◌∙◌, arith}
-use Rattle.std.proofs.lemmas.Int.{to_z-of_z, ints}
-use Rattle.ep_tree.specs.Evaluation.{number_in}
-use Rattle.ep_eval.specs.Helds.{held_value}
+use Rattle.ep_eval.proofs.Words.{Some, w64, sym, ap, ◌∙◌, arith, to_z-of_z, ints, number_in, held_value}
 use Rattle.ep_eval.proofs.held.held_number.Goals as goal
 
 pub returns-in-Number : goal.returns-in-Number

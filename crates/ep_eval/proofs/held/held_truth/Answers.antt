@@ -1,7 +1,4 @@
-use Rattle.std.proofs.Common.{ap, sym, Some}
-use Rattle.ep_base.specs.Numbers.{of_bool}
-use Rattle.ep_tree.specs.Values.{single}
-use Rattle.ep_eval.specs.Helds.{held_value}
+use Rattle.ep_eval.proofs.Words.{ap, sym, Some, of_bool, single, held_value}
 use Rattle.ep_eval.proofs.held.held_truth.Goals as goal
 
 pub returns-then-truth : goal.returns-then-truth

@@ -1,6 +1,4 @@
-use Rattle.std.proofs.Common.{sym, ap}
-use Rattle.ep_tree.specs.Evaluation.{number_in}
-use Rattle.ep_eval.specs.Helds.{seen_held}
+use Rattle.ep_eval.proofs.Words.{sym, ap, number_in, seen_held}
 use Rattle.ep_eval.proofs.held.number_of.Goals as goal
 
 pub returns-in-None : goal.returns-in-None

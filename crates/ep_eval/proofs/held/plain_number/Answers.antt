@@ -1,8 +1,4 @@
-use Rattle.std.proofs.Common.{Some, w64, sym, ap, ◌∙◌, arith}
-use Rattle.std.proofs.lemmas.Int.{to_z-of_z, ints}
-use Rattle.ep_tree.proofs.ViewLemmas.{value_tree-matrix, value_tree-number}
-use Rattle.ep_tree.specs.Evaluation.{number_in}
-use Rattle.ep_tree.specs.Views.{value_tree}
+use Rattle.ep_eval.proofs.Words.{Some, w64, sym, ap, ◌∙◌, arith, to_z-of_z, ints, value_tree-matrix, value_tree-number, number_in, value_tree}
 use Rattle.ep_eval.proofs.held.plain_number.Goals as goal
 
 pub returns-in-Number : goal.returns-in-Number

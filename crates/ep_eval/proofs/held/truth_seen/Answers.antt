@@ -1,7 +1,4 @@
-use Rattle.std.proofs.Common.{ap, sym, Some, ◌∙◌, arith}
-use Rattle.std.proofs.lemmas.Int.{ints}
-use Rattle.std.specs.Prelude.{option_map}
-use Rattle.ep_base.specs.Numbers.{is_one}
+use Rattle.ep_eval.proofs.Words.{ap, sym, Some, ◌∙◌, arith, ints, option_map, is_one}
 use Rattle.ep_eval.proofs.Reaches.{is_one_word}
 use Rattle.ep_eval.proofs.held.truth_seen.Goals as goal
 

@@ -1,27 +1,8 @@
-use Rattle.std.proofs.Common.{◌≡◌, ◌+◌, ◌-◌, ◌&&◌, ◌∷◌, [], ◌++◌, None, arith, ℕ, Bool, List, Option, Some, drop, length, ap, sym, subst, ◌∙◌, option_map}
-use Rattle.std.proofs.lemmas.List.{drop_all, drop_more}
-use Rattle.ep_base.specs.Options.{map_both}
-use Rattle.ep_tree.proofs.TypeEquations.{judge-named, judge_domain-bool, judge_domain-int, judge_domain-named_domain}
-use Rattle.ep_tree.proofs.ViewLemmas.{kind_tree-absolute, kind_tree-all_different, kind_tree-all_of, kind_tree-any_of, kind_tree-at_least, kind_tree-at_most, kind_tree-binary, kind_tree-chain, kind_tree-compare, kind_tree-factorial, kind_tree-flatten, kind_tree-folded, kind_tree-gcc, kind_tree-group, kind_tree-in_set, kind_tree-lex, kind_tree-minus, kind_tree-named, kind_tree-negation, kind_tree-number, kind_tree-read, kind_tree-table, kind_tree-to_int, kind_tree-truth, kind_tree-in_domain, kind_tree-literal, domain_kind_tree-bool, domain_kind_tree-group, domain_kind_tree-int, domain_kind_tree-matrix, domain_kind_tree-named, domain_kind_tree-ranges, domain_kind_tree-set}
-use Rattle.ep_eval.specs.Scopes.{env_in}
-use Rattle.ep_eval.specs.Typing.{AreNamesTyped, context_in, inside_names, readings, with_typed}
+use Rattle.ep_eval.proofs.Words.{◌≡◌, ◌+◌, ◌-◌, ◌&&◌, ◌∷◌, [], ◌++◌, None, arith, ℕ, Bool, List, Option, Some, drop, length, ap, sym, subst, ◌∙◌, option_map, drop_all, drop_more, map_both, judge-named, judge_domain-bool, judge_domain-int, judge_domain-named_domain, kind_tree-absolute, kind_tree-all_different, kind_tree-all_of, kind_tree-any_of, kind_tree-at_least, kind_tree-at_most, kind_tree-binary, kind_tree-chain, kind_tree-compare, kind_tree-factorial, kind_tree-flatten, kind_tree-folded, kind_tree-gcc, kind_tree-group, kind_tree-in_set, kind_tree-lex, kind_tree-minus, kind_tree-named, kind_tree-negation, kind_tree-number, kind_tree-read, kind_tree-table, kind_tree-to_int, kind_tree-truth, kind_tree-in_domain, kind_tree-literal, domain_kind_tree-bool, domain_kind_tree-group, domain_kind_tree-int, domain_kind_tree-matrix, domain_kind_tree-named, domain_kind_tree-ranges, domain_kind_tree-set, env_in, AreNamesTyped, context_in, inside_names, readings, with_typed, context_of, Generator, Name, absolute, all_different, at_least, at_most, binary, compare, factorial, folded, gcc, in_set, lex, literal, minus, negation, table, to_int, all_typed, inside_all, judge_all, judge_domains, judge_generators, judge_indices, judge_ranges, judge_terms, slice_count, type_from, domain_kind_tree, domain_tree, domains_of, expr_tree, expr_trees, generators_of, indices_of, kind_tree, ranges_of, terms_of, Domain, Expr, Range, ValueType, all_pass, domain_type_at, flattened, fold_part, join_part, list_of, matrix_over, name_scalar, passes, read_of, set_of_both, type_at, type_if, index_at, Wanted}
 use Rattle.ep_eval.proofs.TypedNames.{Read, comprehension_none, comprehension_told, generators_ended, generators_fail, generators_inside, generators_pass, generators_passed, names_ended, names_fail, names_inside, names_pass, names_passed, quantifier_none, quantifier_told, read_as}
-use Rattle.ep_tree.specs.Environments.{context_of}
-use Rattle.ep_tree.specs.declared.syntax.Generator.{Generator}
-use Rattle.ep_base.specs.declared.names.Name.{Name}
-use Rattle.ep_tree.specs.Trees.{absolute, all_different, at_least, at_most, binary, compare, factorial, folded, gcc, in_set, lex, literal, minus, negation, table, to_int}
-use Rattle.ep_tree.specs.Types.{all_typed, inside_all, judge_all, judge_domains, judge_generators, judge_indices, judge_ranges, judge_terms, slice_count, type_from}
-use Rattle.ep_tree.specs.Views.{domain_kind_tree, domain_tree, domains_of, expr_tree, expr_trees, generators_of, indices_of, kind_tree, ranges_of, terms_of}
-use Rattle.ep_tree.specs.declared.syntax.Domain.{Domain}
-use Rattle.ep_tree.specs.declared.syntax.Expr.{Expr}
-use Rattle.ep_tree.specs.declared.syntax.Range.{Range}
-use Rattle.ep_tree.specs.declared.values.ValueType.{ValueType}
 use Rattle.ep_eval.proofs.DomainTypes.{at-group_domain, at-in_domain, at-literal, at-matrix_domain, at-ranges, at-set_domain, domains_none, domains_one, index_is, index_scalar-none, index_scalar-some, joined_types, range_one, range_span, ranges_none, ranges_one, types_begin, types_end, types_more}
 use Rattle.ep_eval.proofs.ReadSteps.{given}
 use Rattle.ep_eval.proofs.JudgingForms.{at-absolute, at-all_different, at-all_of, at-any_of, at-at_least, at-at_most, at-binary, at-chain, at-compare, at-factorial, at-flatten, at-folded, at-gcc, at-group, at-in_set, at-lex, at-minus, at-negation, at-number, at-read, at-table, at-to_int, at-truth, both_pass, count_form, first_all, index_every, index_stated, indices_none, indices_one, one_form, parts_none, parts_one, pass_ends, pass_more, terms_none, terms_one, two_form}
-use Rattle.ep_eval.specs.Judging.{all_pass, domain_type_at, flattened, fold_part, join_part, list_of, matrix_over, name_scalar, passes, read_of, set_of_both, type_at, type_if}
-use Rattle.ep_forms.specs.Forms.{index_at}
-use Rattle.ep_eval.specs.declared.rules.Wanted.{Wanted}
 use Rattle.ep_eval.proofs.judging.+judging.Goals as goal
 
 pub type_of-returns-in-Number : goal.type_of-returns-in-Number

@@ -1,13 +1,5 @@
-use Rattle.std.proofs.Common.{◌≡◌, ◌&&◌, drop, option_map}
-use Rattle.ep_base.specs.Options.{map_both}
-use Rattle.ep_eval.specs.Typing.{context_in, inside_names, readings, with_typed}
-use Rattle.ep_eval.specs.Scopes.{env_in}
-use Rattle.ep_tree.specs.Environments.{context_of}
-use Rattle.ep_tree.specs.Types.{all_typed, inside_all, judge_all, judge_domains, judge_generators, judge_indices, judge_ranges, judge_terms}
-use Rattle.ep_tree.specs.Views.{domain_tree, domains_of, expr_trees, generators_of, indices_of, ranges_of, terms_of}
+use Rattle.ep_eval.proofs.Words.{◌≡◌, ◌&&◌, drop, option_map, map_both, context_in, inside_names, readings, with_typed, env_in, context_of, all_typed, inside_all, judge_all, judge_domains, judge_generators, judge_indices, judge_ranges, judge_terms, domain_tree, domains_of, expr_trees, generators_of, indices_of, ranges_of, terms_of, all_pass, Wanted}
 use Rattle.ep_eval.proofs.DomainTypes.{joined_types}
-use Rattle.ep_eval.specs.Judging.{all_pass}
-use Rattle.ep_eval.specs.declared.rules.Wanted.{Wanted}
 use Rattle.ep_eval.proofs.judging.+judging.Given as goal
 
 abbrev pub invariant-parts_fit-loop-part : goal.invariant-parts_fit-loop-part

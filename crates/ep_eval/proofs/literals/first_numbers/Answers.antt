@@ -1,6 +1,4 @@
-use Rattle.std.proofs.Common.{◌≡◌, ◌∷◌, ◌++◌, [], ℤ, List, pos, ap, ◌∙◌, w64, to_z, of_z, rules}
-use Rattle.std.proofs.lemmas.Int.{to_z-of_z}
-use Rattle.ep_base.specs.declared.run_lists.Run.{Run}
+use Rattle.ep_eval.proofs.Words.{◌≡◌, ◌∷◌, ◌++◌, [], ℤ, List, pos, ap, ◌∙◌, w64, to_z, of_z, rules, to_z-of_z, Run}
 use Rattle.ep_eval.proofs.LiteralForms.{counted_set}
 use Rattle.ep_eval.proofs.literals.first_numbers.Goals as goal
 

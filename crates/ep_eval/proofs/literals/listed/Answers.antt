@@ -1,7 +1,5 @@
-use Rattle.std.proofs.Common.{◌≡◌, ◌∷◌, ◌++◌, [], ℤ, List, length, ap, sym, subst, ◌∙◌, append_assoc, arith, w64, to_z, of_z, rules}
-use Rattle.std.proofs.lemmas.Int.{to_z-of_z}
+use Rattle.ep_eval.proofs.Words.{◌≡◌, ◌∷◌, ◌++◌, [], ℤ, List, length, ap, sym, subst, ◌∙◌, append_assoc, arith, w64, to_z, of_z, rules, to_z-of_z, IsWalkBehind, before_rest, numbers_left}
 use Rattle.ep_eval.proofs.LiteralForms.{just_enough, too_few, too_many}
-use Rattle.ep_eval.specs.Walking.{IsWalkBehind, before_rest, numbers_left}
 use Rattle.ep_eval.proofs.literals.listed.Goals as goal
 
 pub loop-number-smaller : goal.loop-number-smaller

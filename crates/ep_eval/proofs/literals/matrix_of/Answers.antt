@@ -1,11 +1,6 @@
-use Rattle.std.proofs.Common.{◌≡◌, ap, sym, ◌∙◌, length, Some, None, option_map, map}
-use Rattle.std.proofs.lemmas.List.{length-map}
-use Rattle.ep_tree.proofs.ViewLemmas.{value_tree-matrix}
-use Rattle.ep_tree.specs.Values.{matrix}
-use Rattle.ep_tree.specs.Views.{value_tree}
+use Rattle.ep_eval.proofs.Words.{◌≡◌, ap, sym, ◌∙◌, length, Some, None, option_map, map, length-map, value_tree-matrix, matrix, value_tree, held_value}
 use Rattle.ep_eval.proofs.LiteralForms.{counted_values, indices_differ, indices_match}
 use Rattle.ep_eval.proofs.Lists.{values_from-map}
-use Rattle.ep_eval.specs.Helds.{held_value}
 use Rattle.ep_eval.proofs.literals.matrix_of.Goals as goal
 
 pub returns-in-Some : goal.returns-in-Some

@@ -1,12 +1,4 @@
-use Rattle.std.proofs.Common.{◌≡◌, ◌∷◌, ◌++◌, [], List, Some, ap, sym, ◌∙◌}
-use Rattle.std.specs.Prelude.{map}
-use Rattle.std.proofs.lemmas.List.{map-append}
-use Rattle.ep_base.specs.Options.{map_both}
-use Rattle.ep_tree.specs.Values.{ValueTree}
-use Rattle.ep_tree.specs.Views.{value_tree}
-use Rattle.ep_tree.specs.declared.values.Value.{Value}
-use Rattle.ep_eval.specs.Helds.{seen_held}
-use Rattle.ep_eval.specs.Literals.{listed_in}
+use Rattle.ep_eval.proofs.Words.{◌≡◌, ◌∷◌, ◌++◌, [], List, Some, ap, sym, ◌∙◌, map, map-append, map_both, ValueTree, value_tree, Value, seen_held, listed_in}
 use Rattle.ep_eval.proofs.literals.with_value.Goals as goal
 
 -- a list with one more behind

@@ -1,12 +1,4 @@
-use Rattle.std.proofs.Common.{Some, pos, sym, ap, subst, ◌∙◌, arith, w64, to_z, of_z}
-use Rattle.std.proofs.lemmas.Int.{ints, to_z-of_z}
-use Rattle.std.specs.Int.{w128}
-use Rattle.std.specs.Prelude.{nat_abs, option_map}
-use Rattle.ep_base.specs.Numbers.{absolute_of}
-use Rattle.ep_tree.specs.Evaluation.{number_value}
-use Rattle.ep_tree.specs.Values.{single}
-use Rattle.ep_eval.specs.Counting.{Gives}
-use Rattle.ep_numbers.proofs.Ends.{absolute_is}
+use Rattle.ep_eval.proofs.Words.{Some, pos, sym, ap, subst, ◌∙◌, arith, w64, to_z, of_z, ints, to_z-of_z, w128, nat_abs, option_map, absolute_of, number_value, single, Gives, absolute_is}
 use Rattle.ep_eval.proofs.numbers.absolute.Goals as goal
 
 pub returns-in-Some : goal.returns-in-Some

@@ -1,8 +1,4 @@
-use Rattle.std.proofs.Common.{Some, subst, arith}
-use Rattle.std.specs.Int.{w128}
-use Rattle.std.proofs.lemmas.Int.{ints, to_z-of_z}
-use Rattle.ep_tree.specs.Values.{single}
-use Rattle.ep_eval.specs.Counting.{Gives}
+use Rattle.ep_eval.proofs.Words.{Some, subst, arith, w128, ints, to_z-of_z, single, Gives}
 use Rattle.ep_eval.proofs.numbers.number_seen.Goals as goal
 
 pub returns : goal.returns

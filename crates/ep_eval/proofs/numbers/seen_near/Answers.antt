@@ -1,10 +1,4 @@
-use Rattle.std.proofs.Common.{◌≡◌, Some, None, ap, sym, subst, ◌∙◌, refl, rules, w64, to_z, of_z}
-use Rattle.std.specs.Prelude.{IfSome, IsSome}
-use Rattle.std.proofs.lemmas.Int.{to_z-of_z}
-use Rattle.ep_base.specs.Reads.{IsWithinNumbers}
-use Rattle.ep_numbers.proofs.Ends.{untold_far}
-use Rattle.ep_tree.specs.Values.{single}
-use Rattle.ep_eval.specs.Helds.{held_value}
+use Rattle.ep_eval.proofs.Words.{◌≡◌, Some, None, ap, sym, subst, ◌∙◌, refl, rules, w64, to_z, of_z, IfSome, IsSome, to_z-of_z, IsWithinNumbers, untold_far, single, held_value}
 use Rattle.ep_eval.proofs.Reaches.{far_single}
 use Rattle.ep_eval.proofs.numbers.seen_near.Goals as goal
 

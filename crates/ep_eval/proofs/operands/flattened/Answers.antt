@@ -1,7 +1,4 @@
-use Rattle.std.proofs.Common.{Some, sym, ap, ◌∙◌}
-use Rattle.std.specs.Prelude.{option_map}
-use Rattle.ep_tree.specs.Values.{list_value}
-use Rattle.ep_eval.specs.Helds.{held_value}
+use Rattle.ep_eval.proofs.Words.{Some, sym, ap, ◌∙◌, option_map, list_value, held_value}
 use Rattle.ep_eval.proofs.operands.flattened.Goals as goal
 
 pub returns-in_ok-list-in-Some : goal.returns-in_ok-list-in-Some

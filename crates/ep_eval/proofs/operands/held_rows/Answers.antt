@@ -1,8 +1,5 @@
-use Rattle.std.proofs.Common.{◌≡◌, sym, ap, subst, ◌∙◌}
-use Rattle.std.specs.Prelude.{IfOk, map}
-use Rattle.ep_tree.specs.Values.{rows_of}
+use Rattle.ep_eval.proofs.Words.{◌≡◌, sym, ap, subst, ◌∙◌, IfOk, map, rows_of, held_value}
 use Rattle.ep_eval.proofs.ValueScalars.{rows_single}
-use Rattle.ep_eval.specs.Helds.{held_value}
 use Rattle.ep_eval.proofs.operands.held_rows.Goals as goal
 
 pub returns-in-Number : goal.returns-in-Number

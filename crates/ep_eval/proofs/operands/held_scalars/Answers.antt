@@ -1,9 +1,5 @@
-use Rattle.std.proofs.Common.{◌≡◌, ◌∷◌, ◌++◌, [], ℤ, sym, ap, subst, ◌∙◌, w64, to_z, of_z, rules}
-use Rattle.std.specs.Prelude.{IfOk}
-use Rattle.std.proofs.lemmas.Int.{to_z-of_z}
-use Rattle.ep_tree.specs.Values.{scalars_of}
+use Rattle.ep_eval.proofs.Words.{◌≡◌, ◌∷◌, ◌++◌, [], ℤ, sym, ap, subst, ◌∙◌, w64, to_z, of_z, rules, IfOk, to_z-of_z, scalars_of, held_value}
 use Rattle.ep_eval.proofs.ValueScalars.{scalars_single}
-use Rattle.ep_eval.specs.Helds.{held_value}
 use Rattle.ep_eval.proofs.operands.held_scalars.Goals as goal
 
 pub returns-in_ok-push-in-Number : goal.returns-in_ok-push-in-Number

@@ -1,13 +1,4 @@
-use Rattle.std.proofs.Common.{◌≡◌, ◌∷◌, ◌++◌, [], ◌+◌, pos, ℕ, ℤ, List, take, length, get_or, sym, ap, ◌∙◌, w64, to_z, of_z, arith, rules}
-use Rattle.std.specs.Prelude.{map}
-use Rattle.std.proofs.lemmas.Int.{ints, to_z-of_z}
-use Rattle.std.proofs.lemmas.List.{map-append, take_all, take_more}
-use Rattle.ep_tree.proofs.ViewLemmas.{value_tree-matrix, value_tree-number}
-use Rattle.ep_tree.specs.Values.{as_parts, list_value, matrix, single}
-use Rattle.ep_tree.specs.Views.{value_tree}
-use Rattle.ep_tree.specs.declared.values.Value.TheVariants.{Number}
-use Rattle.ep_base.specs.Runs.{counting}
-use Rattle.ep_numbers.proofs.Counting.{counting_more}
+use Rattle.ep_eval.proofs.Words.{◌≡◌, ◌∷◌, ◌++◌, [], ◌+◌, pos, ℕ, ℤ, List, take, length, get_or, sym, ap, ◌∙◌, w64, to_z, of_z, arith, rules, map, ints, to_z-of_z, map-append, take_all, take_more, value_tree-matrix, value_tree-number, as_parts, list_value, matrix, single, value_tree, Number, counting, counting_more}
 use Rattle.ep_eval.proofs.Lists.{values_from-map}
 use Rattle.ep_eval.proofs.operands.list_of.Goals as goal
 

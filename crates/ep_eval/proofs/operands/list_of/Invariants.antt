@@ -1,8 +1,4 @@
-use Rattle.std.proofs.Common.{◌≡◌, pos, take}
-use Rattle.std.specs.Prelude.{map}
-use Rattle.ep_base.specs.Runs.{counting}
-use Rattle.ep_tree.specs.Values.{single}
-use Rattle.ep_tree.specs.Views.{value_tree}
+use Rattle.ep_eval.proofs.Words.{◌≡◌, pos, take, map, counting, single, value_tree}
 use Rattle.ep_eval.proofs.operands.list_of.Given as goal
 
 abbrev pub invariant-loop-i : goal.invariant-loop-i

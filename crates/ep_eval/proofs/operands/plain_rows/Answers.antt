@@ -1,10 +1,4 @@
-use Rattle.std.proofs.Common.{ℕ, ℤ, List, sym, ap, ◌∙◌}
-use Rattle.std.specs.Prelude.{map}
-use Rattle.std.proofs.lemmas.List.{take_all}
-use Rattle.ep_tree.proofs.ViewLemmas.{value_tree-matrix, value_tree-number}
-use Rattle.ep_tree.specs.Values.{rows_of, scalars_of}
-use Rattle.ep_tree.specs.Views.{value_tree}
-use Rattle.ep_tree.specs.declared.values.Value.{Value}
+use Rattle.ep_eval.proofs.Words.{ℕ, ℤ, List, sym, ap, ◌∙◌, map, take_all, value_tree-matrix, value_tree-number, rows_of, scalars_of, value_tree, Value}
 use Rattle.ep_eval.proofs.ValueScalars.{rows_matrix, rows_single}
 use Rattle.ep_eval.proofs.operands.plain_rows.Goals as goal
 

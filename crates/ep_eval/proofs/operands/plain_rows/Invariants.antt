@@ -1,7 +1,4 @@
-use Rattle.std.proofs.Common.{◌≡◌, take}
-use Rattle.std.specs.Prelude.{map}
-use Rattle.ep_tree.specs.Values.{scalars_of}
-use Rattle.ep_tree.specs.Views.{value_tree}
+use Rattle.ep_eval.proofs.Words.{◌≡◌, take, map, scalars_of, value_tree}
 use Rattle.ep_eval.proofs.operands.plain_rows.Given as goal
 
 abbrev pub invariant-loop-part : goal.invariant-loop-part

@@ -1,9 +1,4 @@
-use Rattle.std.proofs.Common.{◌≡◌, ◌+◌, ◌∷◌, ◌++◌, [], ℕ, ℤ, List, Bool, pos, true, false, take, drop, get_or, refl, sym, ap, ◌∙◌, w64, to_z, of_z, rules}
-use Rattle.std.specs.Prelude.{not, ◌&&◌, cond}
-use Rattle.std.specs.Ordering.{int_eq}
-use Rattle.std.proofs.lemmas.Int.{to_z-of_z}
-use Rattle.std.proofs.lemmas.List.{take-append-drop, take_more}
-use Rattle.ep_base.specs.Numbers.{are_different, has_number}
+use Rattle.ep_eval.proofs.Words.{◌≡◌, ◌+◌, ◌∷◌, ◌++◌, [], ℕ, ℤ, List, Bool, pos, true, false, take, drop, get_or, refl, sym, ap, ◌∙◌, w64, to_z, of_z, rules, not, ◌&&◌, cond, int_eq, to_z-of_z, take-append-drop, take_more, are_different, has_number}
 use Rattle.ep_eval.proofs.ListLaws.{different_fails, different_more, different_none, has_more}
 use Rattle.ep_eval.proofs.orders.differ.Goals as goal
 

@@ -1,5 +1,4 @@
-use Rattle.std.proofs.Common.{◌≡◌, ℤ, true, take}
-use Rattle.ep_base.specs.Numbers.{are_different, has_number}
+use Rattle.ep_eval.proofs.Words.{◌≡◌, ℤ, true, take, are_different, has_number}
 use Rattle.ep_eval.proofs.orders.differ.Given as goal
 
 abbrev pub invariant-loop-part : goal.invariant-loop-part

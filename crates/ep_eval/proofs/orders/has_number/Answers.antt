@@ -1,8 +1,4 @@
-use Rattle.std.proofs.Common.{◌≡◌, ◌+◌, ℕ, ℤ, List, pos, drop, get_or, sym, ap, subst, ◌∙◌, w64, to_z, of_z, rules}
-use Rattle.std.specs.Ordering.{int_eq}
-use Rattle.std.proofs.lemmas.Int.{to_z-of_z}
-use Rattle.std.proofs.lemmas.List.{at_drop_all, at_drop_more}
-use Rattle.ep_base.specs.Numbers.{has_number}
+use Rattle.ep_eval.proofs.Words.{◌≡◌, ◌+◌, ℕ, ℤ, List, pos, drop, get_or, sym, ap, subst, ◌∙◌, w64, to_z, of_z, rules, int_eq, to_z-of_z, at_drop_all, at_drop_more, has_number}
 use Rattle.ep_eval.proofs.ListLaws.{has_found, has_none, has_step}
 use Rattle.ep_eval.proofs.orders.has_number.Goals as goal
 

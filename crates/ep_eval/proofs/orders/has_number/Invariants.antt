@@ -1,5 +1,4 @@
-use Rattle.std.proofs.Common.{◌≡◌, drop}
-use Rattle.ep_base.specs.Numbers.{has_number}
+use Rattle.ep_eval.proofs.Words.{◌≡◌, drop, has_number}
 use Rattle.ep_eval.proofs.orders.has_number.Given as goal
 
 abbrev pub invariant-loop-part : goal.invariant-loop-part

@@ -1,8 +1,4 @@
-use Rattle.std.proofs.Common.{◌≡◌, ◌+◌, ◌<◌, ◌≤◌, ℕ, ℤ, List, ◌∷◌, pos, true, false, drop, length, get_or, sym, ap, ◌∙◌, w64, to_z, of_z, arith, rules}
-use Rattle.std.specs.Prelude.{int_lt, nat_lt}
-use Rattle.std.proofs.lemmas.Int.{to_z-of_z}
-use Rattle.std.proofs.lemmas.List.{at_drop_all, at_drop_more, length-drop}
-use Rattle.ep_base.specs.Numbers.{lex_less}
+use Rattle.ep_eval.proofs.Words.{◌≡◌, ◌+◌, ◌<◌, ◌≤◌, ℕ, ℤ, List, ◌∷◌, pos, true, false, drop, length, get_or, sym, ap, ◌∙◌, w64, to_z, of_z, arith, rules, int_lt, nat_lt, to_z-of_z, at_drop_all, at_drop_more, length-drop, lex_less}
 use Rattle.ep_eval.proofs.ListLaws.{lex_less_there, lex_longer, lex_more_there, lex_prefix, lex_step}
 use Rattle.ep_eval.proofs.orders.is_less.Goals as goal
 

@@ -1,5 +1,4 @@
-use Rattle.std.proofs.Common.{◌≡◌, ◌≤◌, length, drop}
-use Rattle.ep_base.specs.Numbers.{lex_less}
+use Rattle.ep_eval.proofs.Words.{◌≡◌, ◌≤◌, length, drop, lex_less}
 use Rattle.ep_eval.proofs.orders.is_less.Given as goal
 
 abbrev pub invariant-loop-i : goal.invariant-loop-i

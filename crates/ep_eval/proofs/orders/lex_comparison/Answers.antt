@@ -1,8 +1,4 @@
-use Rattle.std.proofs.Common.{Some, sym, ap, ◌∙◌}
-use Rattle.std.specs.Prelude.{option_map}
-use Rattle.ep_base.specs.Numbers.{lex_holds}
-use Rattle.ep_tree.specs.Evaluation.{scalars_in, truth_in}
-use Rattle.ep_eval.specs.Helds.{seen_held}
+use Rattle.ep_eval.proofs.Words.{Some, sym, ap, ◌∙◌, option_map, lex_holds, scalars_in, truth_in, seen_held}
 use Rattle.ep_eval.proofs.Both.{both_some, first_none, second_none}
 use Rattle.ep_eval.proofs.orders.lex_comparison.Goals as goal
 

@@ -1,9 +1,4 @@
-use Rattle.std.proofs.Common.{Some, sym, ap, ◌∙◌, w64, rules}
-use Rattle.std.specs.Prelude.{option_map}
-use Rattle.std.proofs.lemmas.Int.{to_z-of_z}
-use Rattle.ep_base.specs.Numbers.{has_number}
-use Rattle.ep_tree.specs.Evaluation.{number_in, scalars_in, truth_in}
-use Rattle.ep_eval.specs.Helds.{seen_held}
+use Rattle.ep_eval.proofs.Words.{Some, sym, ap, ◌∙◌, w64, rules, option_map, to_z-of_z, has_number, number_in, scalars_in, truth_in, seen_held}
 use Rattle.ep_eval.proofs.Both.{both_some, first_none, second_none}
 use Rattle.ep_eval.proofs.orders.membership.Goals as goal
 

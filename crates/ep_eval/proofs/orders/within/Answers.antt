@@ -1,8 +1,4 @@
-use Rattle.std.proofs.Common.{Some, ℤ, List, sym, ap, ◌∙◌, w64, rules}
-use Rattle.std.proofs.lemmas.Int.{to_z-of_z}
-use Rattle.ep_base.specs.Numbers.{has_number}
-use Rattle.ep_tree.specs.Evaluation.{number_in, truth_in}
-use Rattle.ep_eval.specs.Helds.{seen_held}
+use Rattle.ep_eval.proofs.Words.{Some, ℤ, List, sym, ap, ◌∙◌, w64, rules, to_z-of_z, has_number, number_in, truth_in, seen_held}
 use Rattle.ep_eval.proofs.Both.{both_some, first_none, second_none}
 use Rattle.ep_eval.proofs.ListLaws.{has_is}
 use Rattle.ep_eval.proofs.orders.within.Goals as goal

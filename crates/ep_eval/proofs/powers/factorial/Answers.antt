@@ -1,8 +1,4 @@
-use Rattle.std.proofs.Common.{pos, sym, ap, ◌∙◌, w64, arith, rules}
-use Rattle.std.specs.Prelude.{int_lt}
-use Rattle.std.proofs.lemmas.Int.{ints, to_z-of_z}
-use Rattle.ep_tree.specs.Evaluation.{number_in}
-use Rattle.ep_eval.specs.Helds.{seen_held}
+use Rattle.ep_eval.proofs.Words.{pos, sym, ap, ◌∙◌, w64, arith, rules, int_lt, ints, to_z-of_z, number_in, seen_held}
 use Rattle.ep_eval.proofs.Products.{factorial_undefined, factorial_value}
 use Rattle.ep_eval.proofs.powers.factorial.Goals as goal
 

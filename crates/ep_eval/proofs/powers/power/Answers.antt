@@ -1,6 +1,4 @@
-use Rattle.std.proofs.Common.{pos, sym, ap, ◌∙◌, w64, arith, rules}
-use Rattle.std.specs.Prelude.{int_lt}
-use Rattle.std.proofs.lemmas.Int.{ints, to_z-of_z}
+use Rattle.ep_eval.proofs.Words.{pos, sym, ap, ◌∙◌, w64, arith, rules, int_lt, ints, to_z-of_z}
 use Rattle.ep_eval.proofs.Products.{power_undefined, power_value}
 use Rattle.ep_eval.proofs.powers.power.Goals as goal
 

@@ -1,9 +1,4 @@
-use Rattle.std.proofs.Common.{◌≡◌, ◌+◌, ◌*ℤ◌, ℕ, ℤ, pos, refl, sym, ap, ◌∙◌, to_z, of_z, arith}
-use Rattle.std.specs.Int.{w128}
-use Rattle.std.proofs.lemmas.Int.{ints, to_z-of_z}
-use Rattle.ep_base.specs.Numbers.{product_to}
-use Rattle.ep_base.specs.Reads.{is_too_far}
-use Rattle.ep_numbers.proofs.PowerLaws.{near_one}
+use Rattle.ep_eval.proofs.Words.{◌≡◌, ◌+◌, ◌*ℤ◌, ℕ, ℤ, pos, refl, sym, ap, ◌∙◌, to_z, of_z, arith, w128, ints, to_z-of_z, product_to, is_too_far, near_one}
 use Rattle.ep_eval.proofs.Products.{factorial_far, factorial_more, factorial_none, wide_fits}
 use Rattle.ep_eval.proofs.Reaches.{far_single}
 use Rattle.ep_eval.proofs.powers.product_to.Goals as goal

@@ -1,6 +1,4 @@
-use Rattle.std.proofs.Common.{◌≡◌, false, pos}
-use Rattle.ep_base.specs.Numbers.{product_to}
-use Rattle.ep_base.specs.Reads.{is_too_far}
+use Rattle.ep_eval.proofs.Words.{◌≡◌, false, pos, product_to, is_too_far}
 use Rattle.ep_eval.proofs.powers.product_to.Given as goal
 
 abbrev pub invariant-loop-i : goal.invariant-loop-i

@@ -1,15 +1,7 @@
-use Rattle.std.proofs.Common.{◌≡◌, ◌+◌, ◌∷◌, [], ℕ, List, Some, None, drop, map, ap, sym, ◌∙◌, arith, w64, option_map}
-use Rattle.std.specs.Prelude.{option_and_then}
-use Rattle.std.proofs.lemmas.Int.{ints, to_z-of_z}
-use Rattle.std.proofs.lemmas.List.{drop_all, drop_more, map-append}
-use Rattle.ep_tree.proofs.ViewLemmas.{value_tree-matrix, value_tree-number}
-use Rattle.ep_tree.specs.Values.{all_defined, any_index, as_parts, indices_in, matrix, read_value}
-use Rattle.ep_tree.specs.Views.{value_tree, values_from}
-use Rattle.ep_tree.specs.declared.values.Value.{Value}
+use Rattle.ep_eval.proofs.Words.{◌≡◌, ◌+◌, ◌∷◌, [], ℕ, List, Some, None, drop, map, ap, sym, ◌∙◌, arith, w64, option_map, option_and_then, ints, to_z-of_z, drop_all, drop_more, map-append, value_tree-matrix, value_tree-number, all_defined, any_index, as_parts, indices_in, matrix, read_value, value_tree, values_from, Value, part_under}
 use Rattle.ep_eval.proofs.Lists.{values_from-map}
 use Rattle.ep_eval.proofs.ReadSteps.{defined_begins, defined_ends, defined_fails, defined_more, defined_so_far, every_first, every_number, every_part, given, read_none, stated_first}
 use Rattle.ep_eval.proofs.WalkSteps.{no_runs}
-use Rattle.ep_eval.specs.Reading.{part_under}
 use Rattle.ep_eval.proofs.reads.+copying.Goals as goal
 
 pub read_copy-returns-in-Some-index : goal.read_copy-returns-in-Some-index

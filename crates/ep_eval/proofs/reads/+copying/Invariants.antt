@@ -1,6 +1,4 @@
-use Rattle.std.proofs.Common.{◌≡◌, ◌+◌, ◌*◌, drop, length, map}
-use Rattle.ep_tree.specs.Values.{all_defined, indices_in, read_value}
-use Rattle.ep_tree.specs.Views.{value_tree}
+use Rattle.ep_eval.proofs.Words.{◌≡◌, ◌+◌, ◌*◌, drop, length, map, all_defined, indices_in, read_value, value_tree}
 use Rattle.ep_eval.proofs.ReadSteps.{defined_so_far}
 use Rattle.ep_eval.proofs.reads.+copying.Given as goal
 

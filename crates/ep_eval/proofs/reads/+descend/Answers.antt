@@ -1,10 +1,5 @@
-use Rattle.std.proofs.Common.{◌≡◌, ◌∷◌, length, Some, ap, sym, subst, ◌∙◌, arith, w64, option_map}
-use Rattle.std.specs.Prelude.{option_and_then}
-use Rattle.std.proofs.lemmas.Int.{ints, to_z-of_z}
-use Rattle.ep_tree.specs.Values.{indices_in, read_value}
-use Rattle.ep_tree.specs.Views.{value_tree}
+use Rattle.ep_eval.proofs.Words.{◌≡◌, ◌∷◌, length, Some, ap, sym, subst, ◌∙◌, arith, w64, option_map, option_and_then, ints, to_z-of_z, indices_in, read_value, value_tree, IsStatedFirst, part_under}
 use Rattle.ep_eval.proofs.ReadSteps.{stated_first}
-use Rattle.ep_eval.specs.Reading.{IsStatedFirst, part_under}
 use Rattle.ep_eval.proofs.reads.+descend.Goals as goal
 
 pub descend-requires : goal.descend-requires

@@ -1,4 +1,4 @@
-use Rattle.std.proofs.Common.{length}
+use Rattle.ep_eval.proofs.Words.{length}
 use Rattle.ep_eval.proofs.reads.+descend.Given as goal
 
 abbrev pub decreases-descend : goal.decreases-descend

@@ -1,6 +1,4 @@
-use Rattle.std.proofs.Common.{◌∷◌, Some, ap, sym, ◌∙◌, arith, w64}
-use Rattle.std.proofs.lemmas.Int.{ints, to_z-of_z}
-use Rattle.ep_eval.specs.Reading.{IsStatedFirst}
+use Rattle.ep_eval.proofs.Words.{◌∷◌, Some, ap, sym, ◌∙◌, arith, w64, ints, to_z-of_z, IsStatedFirst}
 use Rattle.ep_eval.proofs.reads.first_stated.Goals as goal
 
 pub returns-in-Some-index : goal.returns-in-Some-index

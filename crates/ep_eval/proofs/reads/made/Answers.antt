@@ -1,6 +1,4 @@
-use Rattle.std.proofs.Common.{ap, sym, option_map}
-use Rattle.ep_tree.specs.Views.{value_tree}
-use Rattle.ep_eval.specs.Helds.{held_value}
+use Rattle.ep_eval.proofs.Words.{ap, sym, option_map, value_tree, held_value}
 use Rattle.ep_eval.proofs.reads.made.Goals as goal
 
 pub returns-in-Some : goal.returns-in-Some

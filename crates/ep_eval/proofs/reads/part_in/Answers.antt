@@ -1,9 +1,4 @@
-use Rattle.std.proofs.Common.{ap, sym, ◌∙◌, arith, w64}
-use Rattle.std.proofs.lemmas.Int.{ints, to_z-of_z}
-use Rattle.ep_tree.proofs.ViewLemmas.{value_tree-matrix, value_tree-number}
-use Rattle.ep_tree.specs.Values.{part_at}
-use Rattle.ep_tree.specs.Views.{value_tree, values_from}
-use Rattle.ep_eval.specs.Reading.{part_under}
+use Rattle.ep_eval.proofs.Words.{ap, sym, ◌∙◌, arith, w64, ints, to_z-of_z, value_tree-matrix, value_tree-number, part_at, value_tree, values_from, part_under}
 use Rattle.ep_eval.proofs.reads.part_in.Goals as goal
 
 pub returns-in-Number : goal.returns-in-Number

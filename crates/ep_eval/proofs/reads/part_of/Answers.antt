@@ -1,11 +1,4 @@
-use Rattle.std.proofs.Common.{◌≡◌, ◌+◌, ℕ, ℤ, pos, List, Some, drop, get_or, rules, ap, sym, ◌∙◌, arith, w64, to_z, of_z}
-use Rattle.std.specs.Prelude.{if◌then◌else◌}
-use Rattle.std.proofs.lemmas.Int.{ints, to_z-of_z}
-use Rattle.std.proofs.lemmas.List.{drop_all, drop_more}
-use Rattle.ep_base.specs.Numbers.{compare_holds}
-use Rattle.ep_base.specs.declared.operators.CompareOp.{CompareOp}
-use Rattle.ep_tree.specs.Values.{part_at}
-use Rattle.ep_tree.specs.Views.{value_tree, values_from}
+use Rattle.ep_eval.proofs.Words.{◌≡◌, ◌+◌, ℕ, ℤ, pos, List, Some, drop, get_or, rules, ap, sym, ◌∙◌, arith, w64, to_z, of_z, if◌then◌else◌, ints, to_z-of_z, drop_all, drop_more, compare_holds, CompareOp, part_at, value_tree, values_from}
 use Rattle.ep_eval.proofs.ReadSteps.{part_next, part_none, part_short}
 use Rattle.ep_eval.proofs.WalkSteps.{no_runs}
 use Rattle.ep_eval.proofs.reads.part_of.Goals as goal

@@ -1,8 +1,5 @@
-use Rattle.std.proofs.Common.{Some, ap, sym, ◌∙◌, option_map}
-use Rattle.ep_base.specs.Options.{on_both}
-use Rattle.ep_tree.specs.Values.{indices_in, read_value}
+use Rattle.ep_eval.proofs.Words.{Some, ap, sym, ◌∙◌, option_map, on_both, indices_in, read_value, held_value, seen_held}
 use Rattle.ep_eval.proofs.ReadSteps.{given, no_value}
-use Rattle.ep_eval.specs.Helds.{held_value, seen_held}
 use Rattle.ep_eval.proofs.reads.read.Goals as goal
 
 pub returns-in-Some-indices : goal.returns-in-Some-indices

@@ -1,8 +1,5 @@
-use Rattle.std.proofs.Common.{Some, ap, sym, ◌∙◌, arith, w64}
-use Rattle.std.proofs.lemmas.Int.{ints, to_z-of_z}
-use Rattle.ep_tree.specs.Values.{indices_in, read_value, single}
+use Rattle.ep_eval.proofs.Words.{Some, ap, sym, ◌∙◌, arith, w64, ints, to_z-of_z, indices_in, read_value, single, held_value}
 use Rattle.ep_eval.proofs.ReadSteps.{given, read_no_number, read_number}
-use Rattle.ep_eval.specs.Helds.{held_value}
 use Rattle.ep_eval.proofs.reads.read_held.Goals as goal
 
 pub returns-then-indices-eq0 : goal.returns-then-indices-eq0

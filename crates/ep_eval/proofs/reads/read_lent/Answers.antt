@@ -1,10 +1,6 @@
-use Rattle.std.proofs.Common.{ap, sym, ◌∙◌, arith}
-use Rattle.std.specs.Prelude.{option_and_then}
-use Rattle.ep_tree.specs.Values.{indices_in, read_value}
-use Rattle.ep_tree.specs.Views.{value_tree}
+use Rattle.ep_eval.proofs.Words.{ap, sym, ◌∙◌, arith, option_and_then, indices_in, read_value, value_tree, held_value}
 use Rattle.ep_eval.proofs.ReadSteps.{read_none}
 use Rattle.ep_eval.proofs.WalkSteps.{no_runs}
-use Rattle.ep_eval.specs.Helds.{held_value}
 use Rattle.ep_eval.proofs.reads.read_lent.Goals as goal
 
 pub returns-then-rest-eq0 : goal.returns-then-rest-eq0

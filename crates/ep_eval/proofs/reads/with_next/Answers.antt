@@ -1,5 +1,4 @@
-use Rattle.std.proofs.Common.{Some, ap, sym, ◌∙◌, option_map}
-use Rattle.ep_eval.specs.Reading.{with_index}
+use Rattle.ep_eval.proofs.Words.{Some, ap, sym, ◌∙◌, option_map, with_index}
 use Rattle.ep_eval.proofs.reads.with_next.Goals as goal
 
 pub returns-in_ok-push-in-Some : goal.returns-in_ok-push-in-Some

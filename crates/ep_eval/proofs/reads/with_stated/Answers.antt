@@ -1,6 +1,4 @@
-use Rattle.std.proofs.Common.{◌++◌, ◌∷◌, [], true, Some, ap, sym, ◌∙◌, arith, w64}
-use Rattle.std.proofs.lemmas.Int.{ints, to_z-of_z}
-use Rattle.ep_eval.specs.Reading.{with_index}
+use Rattle.ep_eval.proofs.Words.{◌++◌, ◌∷◌, [], true, Some, ap, sym, ◌∙◌, arith, w64, ints, to_z-of_z, with_index}
 use Rattle.ep_eval.proofs.reads.with_stated.Goals as goal
 
 pub returns-in_ok-push-in-Some : goal.returns-in_ok-push-in-Some

@@ -1,4 +1,4 @@
-use Rattle.std.proofs.Common.{arith}
+use Rattle.ep_eval.proofs.Words.{arith}
 use Rattle.ep_eval.proofs.DomainTypes.{matrices_told}
 use Rattle.ep_eval.proofs.rules.list_of_matrices.Goals as goal
 

@@ -1,7 +1,4 @@
-use Rattle.std.proofs.Common.{Some, sym, ap, ◌∙◌, if◌then◌else◌}
-use Rattle.ep_tree.specs.Types.{list_of_matrices, type_from}
-use Rattle.ep_tree.specs.declared.values.Scalar.{Scalar}
-use Rattle.ep_tree.specs.declared.values.ValueType.{ValueType}
+use Rattle.ep_eval.proofs.Words.{Some, sym, ap, ◌∙◌, if◌then◌else◌, list_of_matrices, type_from, Scalar, ValueType}
 use Rattle.ep_eval.proofs.DomainTypes.{list_empty, list_matrices, list_mixed, list_numbers}
 use Rattle.ep_eval.proofs.ReadSteps.{given}
 use Rattle.ep_eval.proofs.rules.list_type.Goals as goal

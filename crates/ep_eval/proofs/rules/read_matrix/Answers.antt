@@ -1,6 +1,5 @@
-use Rattle.std.proofs.Common.{Some, ap, ◌∙◌, arith}
+use Rattle.ep_eval.proofs.Words.{Some, ap, ◌∙◌, arith, type_if}
 use Rattle.ep_eval.proofs.JudgingForms.{reads_beyond, reads_within}
-use Rattle.ep_eval.specs.Judging.{type_if}
 use Rattle.ep_eval.proofs.rules.read_matrix.Goals as goal
 
 pub returns-then-stated-dims : goal.returns-then-stated-dims

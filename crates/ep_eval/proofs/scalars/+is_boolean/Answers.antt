@@ -1,12 +1,5 @@
-use Rattle.std.proofs.Common.{◌≡◌, ◌&&◌, ap, sym, ◌∙◌}
-use Rattle.ep_tree.proofs.ViewLemmas.{domain_kind_tree-bool, domain_kind_tree-group, domain_kind_tree-int, domain_kind_tree-matrix, domain_kind_tree-named, domain_kind_tree-ranges, domain_kind_tree-set}
-use Rattle.ep_tree.specs.Environments.{context_of}
-use Rattle.ep_tree.specs.Trees.{bool, group_domain, int, matrix_domain, named_domain, ranges, set_domain}
-use Rattle.ep_tree.specs.Types.{is_boolean, judge_domain}
-use Rattle.ep_tree.specs.Views.{domain_kind_tree, domain_tree, domains_of, ranges_of}
+use Rattle.ep_eval.proofs.Words.{◌≡◌, ◌&&◌, ap, sym, ◌∙◌, domain_kind_tree-bool, domain_kind_tree-group, domain_kind_tree-int, domain_kind_tree-matrix, domain_kind_tree-named, domain_kind_tree-ranges, domain_kind_tree-set, context_of, bool, group_domain, int, matrix_domain, named_domain, ranges, set_domain, is_boolean, judge_domain, domain_kind_tree, domain_tree, domains_of, ranges_of, is_of_booleans, env_in}
 use Rattle.ep_eval.proofs.ScalarSteps.{booleans-both, booleans-group, booleans-matrix, booleans-ranges}
-use Rattle.ep_eval.specs.Scalars.{is_of_booleans}
-use Rattle.ep_eval.specs.Scopes.{env_in}
 use Rattle.ep_eval.proofs.scalars.+is_boolean.Goals as goal
 
 pub returns-in-Bool : goal.returns-in-Bool

@@ -1,4 +1,4 @@
-use Rattle.std.proofs.Common.{arith}
+use Rattle.ep_eval.proofs.Words.{arith}
 use Rattle.ep_eval.proofs.ScalarSteps.{bool_named, int_named, matrix_named}
 use Rattle.ep_eval.proofs.scalars.is_named_of_booleans.Goals as goal
 

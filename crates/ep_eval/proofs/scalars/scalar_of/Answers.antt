@@ -1,8 +1,5 @@
-use Rattle.std.proofs.Common.{ap, sym, ◌∙◌}
-use Rattle.ep_tree.specs.Views.{domain_tree}
+use Rattle.ep_eval.proofs.Words.{ap, sym, ◌∙◌, domain_tree, scalar_if, env_in}
 use Rattle.ep_eval.proofs.ScalarSteps.{scalar_is}
-use Rattle.ep_eval.specs.Scalars.{scalar_if}
-use Rattle.ep_eval.specs.Scopes.{env_in}
 use Rattle.ep_eval.proofs.scalars.scalar_of.Goals as goal
 
 pub returns-then-is_boolean : goal.returns-then-is_boolean

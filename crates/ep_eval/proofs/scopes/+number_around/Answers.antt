@@ -1,10 +1,4 @@
-use Rattle.std.proofs.Common.{ap, sym, ◌∙◌, Some, arith, w64}
-use Rattle.std.specs.Prelude.{if◌then◌else◌}
-use Rattle.std.proofs.lemmas.Int.{ints, to_z-of_z}
-use Rattle.ep_tree.specs.Environments.{has_value, value_bound, with_number}
-use Rattle.ep_tree.specs.Types.{of_scalar}
-use Rattle.ep_tree.specs.Values.{single}
-use Rattle.ep_eval.specs.Scopes.{number_or_value, with_all}
+use Rattle.ep_eval.proofs.Words.{ap, sym, ◌∙◌, Some, arith, w64, if◌then◌else◌, ints, to_z-of_z, has_value, value_bound, with_number, of_scalar, single, number_or_value, with_all}
 use Rattle.ep_eval.proofs.scopes.+number_around.Goals as goal
 
 pub returns-in-Nothing : goal.returns-in-Nothing

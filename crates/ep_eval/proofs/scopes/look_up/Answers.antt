@@ -1,10 +1,4 @@
-use Rattle.std.proofs.Common.{ap, sym, ◌∙◌, Some, arith, w64}
-use Rattle.std.proofs.lemmas.Int.{ints, to_z-of_z}
-use Rattle.ep_tree.specs.Environments.{value_bound}
-use Rattle.ep_tree.specs.Values.{single}
-use Rattle.ep_eval.specs.Helds.{held_value}
-use Rattle.ep_eval.specs.Known.{env_of}
-use Rattle.ep_eval.specs.Scopes.{number_or_value}
+use Rattle.ep_eval.proofs.Words.{ap, sym, ◌∙◌, Some, arith, w64, ints, to_z-of_z, value_bound, single, held_value, env_of, number_or_value}
 use Rattle.ep_eval.proofs.scopes.look_up.Goals as goal
 
 pub returns-in-Some : goal.returns-in-Some

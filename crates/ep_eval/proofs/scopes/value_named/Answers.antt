@@ -1,9 +1,4 @@
-use Rattle.std.proofs.Common.{ap, sym, ◌∙◌}
-use Rattle.std.specs.Prelude.{option_map}
-use Rattle.ep_tree.specs.Environments.{value_bound}
-use Rattle.ep_eval.specs.Bounds.{entry_bound}
-use Rattle.ep_eval.specs.Helds.{held_value}
-use Rattle.ep_eval.specs.Known.{env_of}
+use Rattle.ep_eval.proofs.Words.{ap, sym, ◌∙◌, option_map, value_bound, entry_bound, held_value, env_of}
 use Rattle.ep_eval.proofs.Looking.{only_value-value}
 use Rattle.ep_eval.proofs.scopes.value_named.Goals as goal
 

@@ -1,9 +1,5 @@
-use Rattle.std.proofs.Common.{◌≡◌, ◌&&◌, ◌||◌, pos, ◌+ℤ◌, ap, ap₂, ◌∙◌, w64, to_z, of_z, rules, arith}
-use Rattle.std.specs.Int.{int_max}
-use Rattle.std.specs.Prelude.{int_le}
-use Rattle.std.proofs.lemmas.Int.{ints, to_z-of_z}
+use Rattle.ep_eval.proofs.Words.{◌≡◌, ◌&&◌, ◌||◌, pos, ◌+ℤ◌, ap, ap₂, ◌∙◌, w64, to_z, of_z, rules, arith, int_max, int_le, ints, to_z-of_z, runs_have}
 use Rattle.ep_eval.proofs.SetSteps.{some_above}
-use Rattle.ep_eval.specs.Ranges.{runs_have}
 use Rattle.ep_eval.proofs.sets.add_above.Goals as goal
 
 pub returns : goal.returns

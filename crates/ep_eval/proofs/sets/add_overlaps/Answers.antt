@@ -1,5 +1,5 @@
 use Rattle.ep_eval.proofs.SetSteps.{overlaps_more}
-use Rattle.ep_eval.specs.Ranges.{runs_have}
+use Rattle.ep_eval.proofs.Words.{runs_have}
 use Rattle.ep_eval.proofs.sets.add_overlaps.Goals as goal
 
 pub loop-run-preserved : goal.loop-run-preserved

@@ -1,5 +1,4 @@
-use Rattle.std.proofs.Common.{◌≡◌, not, ◌&&◌, ℤ, take}
-use Rattle.ep_eval.specs.Ranges.{runs_have}
+use Rattle.ep_eval.proofs.Words.{◌≡◌, not, ◌&&◌, ℤ, take, runs_have}
 use Rattle.ep_eval.proofs.sets.difference.Given as goal
 
 abbrev pub invariant-loop-run : goal.invariant-loop-run

@@ -1,7 +1,4 @@
-use Rattle.std.proofs.Common.{◌≡◌, ◌&&◌, ap₂, ◌∙◌, w64, to_z, of_z, rules, arith}
-use Rattle.std.specs.Int.{int_max, int_min}
-use Rattle.std.specs.Prelude.{int_le}
-use Rattle.std.proofs.lemmas.Int.{ints, to_z-of_z}
+use Rattle.ep_eval.proofs.Words.{◌≡◌, ◌&&◌, ap₂, ◌∙◌, w64, to_z, of_z, rules, arith, int_max, int_min, int_le, ints, to_z-of_z}
 use Rattle.ep_eval.proofs.SetSteps.{overlap_has}
 use Rattle.ep_eval.proofs.sets.overlap.Goals as goal
 

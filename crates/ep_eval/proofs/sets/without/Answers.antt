@@ -1,6 +1,5 @@
-use Rattle.std.proofs.Common.{not, ◌&&◌, ap, ◌∙◌}
+use Rattle.ep_eval.proofs.Words.{not, ◌&&◌, ap, ◌∙◌, run_has}
 use Rattle.ep_eval.proofs.SetSteps.{has_all, without_more}
-use Rattle.ep_eval.specs.Ranges.{run_has}
 use Rattle.ep_eval.proofs.sets.without.Goals as goal
 
 pub loop-run-preserved : goal.loop-run-preserved

@@ -1,5 +1,4 @@
-use Rattle.std.proofs.Common.{◌≡◌, not, ◌&&◌, ℤ, take}
-use Rattle.ep_eval.specs.Ranges.{run_has, runs_have}
+use Rattle.ep_eval.proofs.Words.{◌≡◌, not, ◌&&◌, ℤ, take, run_has, runs_have}
 use Rattle.ep_eval.proofs.sets.without.Given as goal
 
 abbrev pub invariant-loop-run : goal.invariant-loop-run

@@ -1,8 +1,4 @@
-use Rattle.std.proofs.Common.{◌≡◌, Some, None, ◌+ℤ◌, sym, ◌∙◌, arith, w64, to_z, of_z, subst, ap}
-use Rattle.std.specs.Prelude.{FitsSigned, option_map}
-use Rattle.std.specs.Int.{w128}
-use Rattle.std.proofs.lemmas.Int.{ints, to_z-of_z}
-use Rattle.ep_tree.specs.Evaluation.{signed}
+use Rattle.ep_eval.proofs.Words.{◌≡◌, Some, None, ◌+ℤ◌, sym, ◌∙◌, arith, w64, to_z, of_z, subst, ap, FitsSigned, option_map, w128, ints, to_z-of_z, signed}
 use Rattle.ep_eval.proofs.TermSteps.{adds_none, adds_number}
 use Rattle.ep_eval.proofs.totals.with_term.Goals as goal
 

@@ -1,7 +1,4 @@
-use Rattle.std.proofs.Common.{Some, None, pos, ap, sym, ◌∙◌}
-use Rattle.std.specs.Prelude.{if◌then◌else◌}
-use Rattle.ep_base.specs.Numbers.{of_bool}
-use Rattle.ep_tree.specs.Values.{single}
+use Rattle.ep_eval.proofs.Words.{Some, None, pos, ap, sym, ◌∙◌, if◌then◌else◌, of_bool, single}
 use Rattle.ep_eval.proofs.typing.false_if.Goals as goal
 
 pub returns-then-asked : goal.returns-then-asked

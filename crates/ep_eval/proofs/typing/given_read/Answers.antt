@@ -1,12 +1,5 @@
-use Rattle.std.proofs.Common.{None, Some, pos, ap, sym, ◌∙◌}
-use Rattle.std.specs.Prelude.{if◌then◌else◌}
-use Rattle.ep_tree.specs.Evaluation.{read_result, type_in}
-use Rattle.ep_tree.specs.Trees.{read}
-use Rattle.ep_tree.specs.Values.{single}
-use Rattle.ep_tree.specs.Views.{expr_tree, indices_of}
+use Rattle.ep_eval.proofs.Words.{None, Some, pos, ap, sym, ◌∙◌, if◌then◌else◌, read_result, type_in, read, single, expr_tree, indices_of, held_value, seen_held, env_in, mode_in}
 use Rattle.ep_eval.proofs.ReadResults.{read_found, read_relational, read_strict}
-use Rattle.ep_eval.specs.Helds.{held_value, seen_held}
-use Rattle.ep_eval.specs.Scopes.{env_in, mode_in}
 use Rattle.ep_eval.proofs.typing.given_read.Goals as goal
 
 pub returns-in-Some : goal.returns-in-Some

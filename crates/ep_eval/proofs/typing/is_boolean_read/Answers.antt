@@ -1,15 +1,5 @@
-use Rattle.std.proofs.Common.{◌-◌, ap, sym, ◌∙◌, length}
-use Rattle.std.specs.Prelude.{unwrap_or}
-use Rattle.ep_tree.specs.Environments.{context_of}
-use Rattle.ep_tree.specs.Evaluation.{type_in}
-use Rattle.ep_tree.specs.Types.{is_boolean, judge_indices, slice_count}
-use Rattle.ep_tree.specs.Views.{expr_tree, indices_of}
-use Rattle.ep_tree.specs.declared.values.ValueType.{ValueType}
+use Rattle.ep_eval.proofs.Words.{◌-◌, ap, sym, ◌∙◌, length, unwrap_or, context_of, type_in, is_boolean, judge_indices, slice_count, expr_tree, indices_of, ValueType, all_pass, read_of, type_at, env_in, with_typed, Wanted}
 use Rattle.ep_eval.proofs.JudgingForms.{at-read}
-use Rattle.ep_eval.specs.Judging.{all_pass, read_of, type_at}
-use Rattle.ep_eval.specs.Scopes.{env_in}
-use Rattle.ep_eval.specs.Typing.{with_typed}
-use Rattle.ep_eval.specs.declared.rules.Wanted.{Wanted}
 use Rattle.ep_eval.proofs.typing.is_boolean_read.Goals as goal
 
 pub returns : goal.returns

@@ -1,7 +1,5 @@
-use Rattle.std.proofs.Common.{◌≡◌, ℤ, pos, ◌+ℤ◌, ap, ◌∙◌, w64, to_z, of_z, arith}
-use Rattle.std.proofs.lemmas.Int.{ints, to_z-of_z}
+use Rattle.ep_eval.proofs.Words.{◌≡◌, ℤ, pos, ◌+ℤ◌, ap, ◌∙◌, w64, to_z, of_z, arith, ints, to_z-of_z, IsFilledIn}
 use Rattle.ep_eval.proofs.WalkSteps.{run_last, run_step}
-use Rattle.ep_eval.specs.Walking.{IsFilledIn}
 use Rattle.ep_eval.proofs.walking.behind_first.Goals as goal
 
 pub returns-then-run-clause-numbers : goal.returns-then-run-clause-numbers

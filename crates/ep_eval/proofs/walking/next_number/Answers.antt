@@ -1,6 +1,4 @@
-use Rattle.std.proofs.Common.{ℤ, ap, sym, subst, ◌∙◌, w64, arith, ◌∷◌}
-use Rattle.std.proofs.lemmas.Int.{ints, to_z-of_z}
-use Rattle.ep_eval.specs.Walking.{IsFilledIn, IsWalkBehind, before_rest, left_in, numbers_left}
+use Rattle.ep_eval.proofs.Words.{ℤ, ap, sym, subst, ◌∙◌, w64, arith, ◌∷◌, ints, to_z-of_z, IsFilledIn, IsWalkBehind, before_rest, left_in, numbers_left}
 use Rattle.ep_eval.proofs.walking.next_number.Goals as goal
 
 pub behind_first-requires : goal.behind_first-requires

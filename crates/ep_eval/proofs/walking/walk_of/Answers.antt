@@ -1,9 +1,5 @@
-use Rattle.std.proofs.Common.{ap, sym, subst}
-use Rattle.std.specs.List.{All}
-use Rattle.ep_base.specs.Runs.{numbers}
-use Rattle.std.proofs.lemmas.List.Elements.{All-head, All-tail}
+use Rattle.ep_eval.proofs.Words.{ap, sym, subst, All, numbers, All-head, All-tail, IsFilled, IsFilledIn, left_in}
 use Rattle.ep_eval.proofs.WalkSteps.{no_runs}
-use Rattle.ep_eval.specs.Walking.{IsFilled, IsFilledIn, left_in}
 use Rattle.ep_eval.proofs.walking.walk_of.Goals as goal
 
 pub returns-in-Some-clause-numbers : goal.returns-in-Some-clause-numbers

@@ -1,10 +1,4 @@
-use Rattle.std.proofs.Common.{ap, sym, ◌∙◌, Some, option_map}
-use Rattle.std.specs.Prelude.{if◌then◌else◌}
-use Rattle.ep_tree.specs.Environments.{context_of, has_value, meaning_in, with_number}
-use Rattle.ep_tree.specs.Types.{named_type, of_scalar, type_from}
-use Rattle.ep_tree.specs.Values.{single}
-use Rattle.ep_eval.specs.Judging.{scalar_or}
-use Rattle.ep_eval.specs.Scopes.{with_all}
+use Rattle.ep_eval.proofs.Words.{ap, sym, ◌∙◌, Some, option_map, if◌then◌else◌, context_of, has_value, meaning_in, with_number, named_type, of_scalar, type_from, single, scalar_or, with_all}
 use Rattle.ep_eval.proofs.within.+scalar_around.Goals as goal
 
 pub returns-in-Nothing : goal.returns-in-Nothing

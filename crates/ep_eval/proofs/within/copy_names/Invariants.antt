@@ -1,4 +1,4 @@
-use Rattle.std.proofs.Common.{◌≡◌, take}
+use Rattle.ep_eval.proofs.Words.{◌≡◌, take}
 use Rattle.ep_eval.proofs.within.copy_names.Given as goal
 
 abbrev pub invariant-loop-own : goal.invariant-loop-own

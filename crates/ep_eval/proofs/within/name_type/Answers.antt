@@ -1,8 +1,4 @@
-use Rattle.std.proofs.Common.{ap, sym, ◌∙◌, Some}
-use Rattle.ep_tree.specs.Environments.{context_of}
-use Rattle.ep_tree.specs.Types.{named_type, type_from}
-use Rattle.ep_eval.specs.Judging.{scalar_or}
-use Rattle.ep_eval.specs.Known.{env_of}
+use Rattle.ep_eval.proofs.Words.{ap, sym, ◌∙◌, Some, context_of, named_type, type_from, scalar_or, env_of}
 use Rattle.ep_eval.proofs.within.name_type.Goals as goal
 
 pub returns-in-Some : goal.returns-in-Some

@@ -1,8 +1,4 @@
-use Rattle.std.proofs.Common.{ap, sym, ◌∙◌, Some}
-use Rattle.ep_tree.specs.Environments.{context_of}
-use Rattle.ep_tree.specs.Types.{named_type, type_from}
-use Rattle.ep_eval.specs.Scopes.{env_in}
-use Rattle.ep_eval.specs.Typing.{meaning_or}
+use Rattle.ep_eval.proofs.Words.{ap, sym, ◌∙◌, Some, context_of, named_type, type_from, env_in, meaning_or}
 use Rattle.ep_eval.proofs.within.name_within.Goals as goal
 
 pub returns-in-Some : goal.returns-in-Some

@@ -1,11 +1,5 @@
-use Rattle.std.proofs.Common.{ap, sym, ◌∙◌, None, Some, option_map}
-use Rattle.std.specs.Prelude.{if◌then◌else◌}
-use Rattle.ep_tree.specs.Environments.{context_of, meaning_in}
-use Rattle.ep_tree.specs.Types.{named_domain_type, type_from}
+use Rattle.ep_eval.proofs.Words.{ap, sym, ◌∙◌, None, Some, option_map, if◌then◌else◌, context_of, meaning_in, named_domain_type, type_from, domain_of, only_domain, env_of, env_in}
 use Rattle.ep_eval.proofs.TypedNames.{only_domain-type}
-use Rattle.ep_eval.specs.Bounds.{domain_of, only_domain}
-use Rattle.ep_eval.specs.Known.{env_of}
-use Rattle.ep_eval.specs.Scopes.{env_in}
 use Rattle.ep_eval.proofs.within.named_domain.Goals as goal
 
 pub returns-then-hides : goal.returns-then-hides

@@ -1,7 +1,5 @@
-use Rattle.std.proofs.Common.{ap, sym, ◌∙◌, ◌+◌, drop}
-use Rattle.std.proofs.lemmas.List.{drop_all}
+use Rattle.ep_eval.proofs.Words.{ap, sym, ◌∙◌, ◌+◌, drop, drop_all, meaning_or}
 use Rattle.ep_eval.proofs.TypedNames.{shown, shown_all, shown_next, shown_within}
-use Rattle.ep_eval.specs.Typing.{meaning_or}
 use Rattle.ep_eval.proofs.within.scalar_within.Goals as goal
 
 pub loop-own-init : goal.loop-own-init

@@ -1,7 +1,5 @@
-use Rattle.std.proofs.Common.{◌≡◌, drop}
-use Rattle.ep_tree.specs.Types.{Context}
+use Rattle.ep_eval.proofs.Words.{◌≡◌, drop, Context, meaning_or, with_typed}
 use Rattle.ep_eval.proofs.TypedNames.{shown}
-use Rattle.ep_eval.specs.Typing.{meaning_or, with_typed}
 use Rattle.ep_eval.proofs.within.scalar_within.Given as goal
 
 abbrev pub invariant-loop-own : goal.invariant-loop-own

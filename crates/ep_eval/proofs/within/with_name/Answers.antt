@@ -1,8 +1,5 @@
-use Rattle.std.proofs.Common.{ap, ◌∙◌, Some, false}
-use Rattle.ep_tree.specs.Names.{put}
-use Rattle.ep_tree.specs.Types.{a_value, of_scalar}
+use Rattle.ep_eval.proofs.Words.{ap, ◌∙◌, Some, false, put, a_value, of_scalar, with_typed}
 use Rattle.ep_eval.proofs.TypedNames.{typed_behind}
-use Rattle.ep_eval.specs.Typing.{with_typed}
 use Rattle.ep_eval.proofs.within.with_name.Goals as goal
 
 pub returns : goal.returns

@@ -1,16 +1,6 @@
-use Rattle.std.proofs.Common.{◌≡◌, ◌<◌, ℕ, List, length, ap, sym, subst, arith, ◌∙◌}
-use Rattle.ep_tree.proofs.ViewLemmas.{kind_tree-all_of, kind_tree-any_of, kind_tree-chain, kind_tree-comprehension, kind_tree-literal, kind_tree-read}
-use Rattle.ep_tree.specs.Trees.{all_of, any_of, chain, comprehension, literal, read}
-use Rattle.ep_tree.specs.Views.{expr_tree, expr_trees, generators_of, indices_of, kind_tree, terms_of}
-use Rattle.ep_tree.specs.declared.syntax.Domain.{size-Domain}
-use Rattle.ep_tree.specs.declared.syntax.Expr.{size-Expr}
-use Rattle.ep_tree.specs.declared.syntax.Kind.{size-Kind}
-use Rattle.ep_forms.specs.Forms.{form_tree, index_at, truths_node}
-use Rattle.ep_forms.specs.declared.forms.Listing.{Listing}
-use Rattle.ep_forms.specs.Ranks.{IsBelow, end_depth, generators_depth, greater, index_depth}
+use Rattle.ep_forms.proofs.Words.{◌≡◌, ◌<◌, ℕ, List, length, ap, sym, subst, arith, ◌∙◌, kind_tree-all_of, kind_tree-any_of, kind_tree-chain, kind_tree-comprehension, kind_tree-literal, kind_tree-read, all_of, any_of, chain, comprehension, literal, read, expr_tree, expr_trees, generators_of, indices_of, kind_tree, terms_of, size-Domain, size-Expr, size-Kind, form_tree, index_at, truths_node, Listing, IsBelow, end_depth, generators_depth, greater, index_depth, most}
 use Rattle.ep_forms.proofs.Depths.{index_is, of_comprehension, of_index, of_indices, of_matrix, of_own_index, of_parts, of_quantifier}
 use Rattle.ep_forms.proofs.forms.form_of.Goals as goal
-use denote.Param.Weighed.{most}
 
 pub returns-in-And-clause-tree : goal.returns-in-And-clause-tree
 unfolding form_tree truths_node

@@ -1,6 +1,5 @@
-use Rattle.std.proofs.Common.{◌*◌, ap, ◌∙◌, arith}
+use Rattle.ep_size.proofs.Words.{◌*◌, ap, ◌∙◌, arith, capped}
 use Rattle.ep_size.proofs.Caps.{cells_all, cells_begin, cells_on}
-use Rattle.ep_size.specs.Totals.{capped}
 use Rattle.ep_size.proofs.cells.cells_over.Goals as goal
 
 pub loop-set-init : goal.loop-set-init

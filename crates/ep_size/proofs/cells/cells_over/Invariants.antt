@@ -1,6 +1,4 @@
-use Rattle.std.proofs.Common.{◌≡◌, ◌*◌, ◌≤◌, drop}
-use Rattle.ep_tree.specs.Solutions.{cell_count}
-use Rattle.ep_size.specs.Totals.{MOST_TOLD, capped}
+use Rattle.ep_size.proofs.Words.{◌≡◌, ◌*◌, ◌≤◌, drop, cell_count, MOST_TOLD, capped}
 use Rattle.ep_size.proofs.cells.cells_over.Given as goal
 
 abbrev pub invariant-loop-set : goal.invariant-loop-set

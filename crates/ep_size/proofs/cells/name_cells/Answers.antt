@@ -1,7 +1,4 @@
-use Rattle.std.proofs.Common.{◌≡◌, ℕ, ◌+◌, ◌-◌, ◌<◌, ap, refl, subst, sym, length, drop, ◌∙◌, arith}
-use Rattle.std.proofs.lemmas.List.{drop_all}
-use Rattle.std.proofs.lemmas.Result.{err_from_is_err_and}
-use Rattle.ep_eval.specs.Known.{env_of}
+use Rattle.ep_size.proofs.Words.{◌≡◌, ℕ, ◌+◌, ◌-◌, ◌<◌, ap, refl, subst, sym, length, drop, ◌∙◌, arith, drop_all, err_from_is_err_and, env_of}
 use Rattle.ep_size.proofs.CellSteps.{CellsSoFar, cells_begin, cells_more, cells_refused, finds_from}
 use Rattle.ep_size.proofs.cells.name_cells.Goals as goal
 

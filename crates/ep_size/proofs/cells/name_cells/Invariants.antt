@@ -1,7 +1,5 @@
-use Rattle.std.proofs.Common.{◌≡◌, ◌≤◌, ◌-◌, drop, length}
-use Rattle.ep_eval.specs.Known.{env_of}
+use Rattle.ep_size.proofs.Words.{◌≡◌, ◌≤◌, ◌-◌, drop, length, env_of, MOST_TOLD}
 use Rattle.ep_size.proofs.CellSteps.{CellsSoFar}
-use Rattle.ep_size.specs.Totals.{MOST_TOLD}
 use Rattle.ep_size.proofs.cells.name_cells.Given as goal
 
 abbrev pub invariant-loop-passed : goal.invariant-loop-passed

@@ -1,7 +1,4 @@
-use Rattle.std.proofs.Common.{ap, sym, ◌∙◌, arith, pos}
-use Rattle.std.proofs.lemmas.Int.{ints}
-use Rattle.std.specs.Prelude.{int_lt, nat_abs}
-use Rattle.ep_numbers.proofs.Counting.{wide_length}
+use Rattle.ep_size.proofs.Words.{ap, sym, ◌∙◌, arith, pos, ints, int_lt, nat_abs, wide_length}
 use Rattle.ep_size.proofs.Caps.{run_many, run_none, run_some}
 use Rattle.ep_size.proofs.cells.run_length.Goals as goal
 

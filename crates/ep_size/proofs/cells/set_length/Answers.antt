@@ -1,6 +1,5 @@
-use Rattle.std.proofs.Common.{◌+◌, ap, refl, length, ◌∙◌, arith}
+use Rattle.ep_size.proofs.Words.{◌+◌, ap, refl, length, ◌∙◌, arith, capped}
 use Rattle.ep_size.proofs.Caps.{numbers_all, numbers_on}
-use Rattle.ep_size.specs.Totals.{capped}
 use Rattle.ep_size.proofs.cells.set_length.Goals as goal
 
 pub loop-run-init : goal.loop-run-init

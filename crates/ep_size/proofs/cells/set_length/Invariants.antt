@@ -1,6 +1,4 @@
-use Rattle.std.proofs.Common.{◌≡◌, ◌+◌, ◌≤◌, drop, length}
-use Rattle.ep_base.specs.Runs.{numbers}
-use Rattle.ep_size.specs.Totals.{MOST_TOLD, capped}
+use Rattle.ep_size.proofs.Words.{◌≡◌, ◌+◌, ◌≤◌, drop, length, numbers, MOST_TOLD, capped}
 use Rattle.ep_size.proofs.cells.set_length.Given as goal
 
 abbrev pub invariant-loop-run : goal.invariant-loop-run

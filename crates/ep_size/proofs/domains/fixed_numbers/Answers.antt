@@ -1,11 +1,6 @@
-use Rattle.std.proofs.Common.{sym, ◌∙◌}
-use Rattle.ep_tree.specs.Measures.{met_domain}
-use Rattle.ep_tree.specs.Reach.{decisions_in}
-use Rattle.ep_tree.specs.Views.{domain_tree}
-use Rattle.ep_eval.specs.Scopes.{env_in, mode_in}
+use Rattle.ep_size.proofs.Words.{sym, ◌∙◌, met_domain, decisions_in, domain_tree, env_in, mode_in, hidden_without}
 use Rattle.ep_size.proofs.FixedParts.{fixed_told}
 use Rattle.ep_size.proofs.FreeParts.{free_domain_met, same_below}
-use Rattle.ep_size.specs.Standings.{hidden_without}
 use Rattle.ep_size.proofs.domains.fixed_numbers.Goals as goal
 
 pub returns-then-fixed : goal.returns-then-fixed

@@ -1,7 +1,4 @@
-use Rattle.std.proofs.Common.{◌+◌, ◌∷◌, ℕ, List, ap, drop, sym, ◌∙◌}
-use Rattle.std.proofs.lemmas.List.{drop_all, drop_more}
-use Rattle.ep_tree.specs.declared.syntax.Expr.{Expr}
-use Rattle.ep_eval.specs.Known.{env_of}
+use Rattle.ep_size.proofs.Words.{◌+◌, ◌∷◌, ℕ, List, ap, drop, sym, ◌∙◌, drop_all, drop_more, Expr, env_of}
 use Rattle.ep_size.proofs.ClauseSteps.{clauses_begin, clauses_end, clauses_more}
 use Rattle.ep_size.proofs.expressions.measure_all.Goals as goal
 

@@ -1,5 +1,4 @@
-use Rattle.std.proofs.Common.{drop}
-use Rattle.ep_eval.specs.Known.{env_of}
+use Rattle.ep_size.proofs.Words.{drop, env_of}
 use Rattle.ep_size.proofs.ClauseSteps.{ClausesSoFar}
 use Rattle.ep_size.proofs.expressions.measure_all.Given as goal
 

@@ -1,11 +1,6 @@
-use Rattle.std.proofs.Common.{ap, subst, sym, ◌∙◌}
-use Rattle.std.specs.Prelude.{option_map, option_to_list}
-use Rattle.ep_tree.specs.Binding.{met_in}
-use Rattle.ep_tree.specs.Views.{expr_tree}
-use Rattle.ep_eval.specs.Known.{env_of}
+use Rattle.ep_size.proofs.Words.{ap, subst, sym, ◌∙◌, option_map, option_to_list, met_in, expr_tree, env_of, Told}
 use Rattle.ep_size.proofs.ClauseSteps.{met_none, met_one}
 use Rattle.ep_size.proofs.MeterSteps.{told_none}
-use Rattle.ep_size.specs.Meters.{Told}
 use Rattle.ep_size.proofs.expressions.measure_goal.Goals as goal
 
 pub returns-in_ok-measure_one-in-Some : goal.returns-in_ok-measure_one-in-Some

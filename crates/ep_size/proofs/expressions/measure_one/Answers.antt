@@ -1,7 +1,4 @@
-use Rattle.ep_tree.specs.Measures.{met}
-use Rattle.ep_tree.specs.Views.{expr_tree}
-use Rattle.ep_eval.specs.Known.{env_of}
-use Rattle.ep_eval.specs.Scopes.{with_all}
+use Rattle.ep_size.proofs.Words.{met, expr_tree, env_of, with_all}
 use Rattle.ep_size.proofs.MeterSteps.{told_as}
 use Rattle.ep_size.proofs.expressions.measure_one.Goals as goal
 

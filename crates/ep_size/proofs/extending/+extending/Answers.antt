@@ -1,31 +1,4 @@
-use Rattle.std.proofs.Common.{refl, ◌≡◌, ◌≤◌, ◌<◌, ◌^◌, ◌+◌, ◌∷◌, ℕ, List, drop, length, subst, [], ap, sym, ◌∙◌, arith, Option, w64, to_z, of_z, ◌++◌}
-use Rattle.std.specs.Prelude.{flat_map, map, option_map, true, false, unwrap_or}
-use Rattle.std.proofs.lemmas.Int.{to_z-of_z, ints}
-use Rattle.std.proofs.lemmas.List.{drop_all, drop_more}
-use Rattle.ep_forms.proofs.Depths.{deeper, first_generator, first_within, of_kind, second_within}
-use Rattle.ep_forms.specs.Forms.{form_tree, index_at, quantified_tree}
-use Rattle.ep_forms.specs.Ranks.{IsBelow, depth_of, end_depth, generators_depth, listing_depth}
-use Rattle.ep_tree.proofs.MetEquations.{met-chain, met-in_domain, met-literal, met-named, met-read}
-use Rattle.ep_tree.proofs.ReachEquations.{holds_decision-quantified}
-use Rattle.ep_tree.specs.Environments.{scalar_in, with_number}
-use Rattle.ep_tree.specs.Evaluation.{domain_values, index_values, type_in}
-use Rattle.ep_tree.specs.Measures.{met, met_all, met_domain, met_index, met_indices}
-use Rattle.ep_tree.specs.Reach.{decisions_in, extents_of, hiding, holds_decision, measured_indices, measured_list, span_of}
-use Rattle.ep_tree.specs.Trees.{no_generators}
-use Rattle.ep_tree.specs.Views.{domain_tree, end_of, expr_tree, expr_trees, generators_of, indices_of, terms_of}
-use Rattle.ep_tree.specs.declared.syntax.Domain.{size-Domain}
-use Rattle.ep_tree.specs.declared.syntax.Expr.{Expr, size-Expr}
-use Rattle.ep_tree.specs.declared.syntax.Generator.{size-Generator}
-use Rattle.ep_tree.specs.declared.syntax.Kind.{size-Kind}
-use Rattle.ep_eval.proofs.GeneratingSteps.{generators_first, generators_none, nodes_bare, nodes_part}
-use Rattle.ep_eval.proofs.Instances.{met_bare, met_quantified}
-use Rattle.ep_eval.proofs.MeterSteps.{meets_some}
-use Rattle.ep_eval.proofs.WalkSteps.{no_runs}
-use Rattle.ep_eval.proofs.WorthSteps.{met-counts, met-one, met-truths, met-two}
-use Rattle.ep_eval.specs.Generating.{nodes_at, nodes_of, ranging_over}
-use Rattle.ep_eval.specs.Instances.{instance_env, instance_nodes}
-use Rattle.ep_eval.specs.Scopes.{env_in, mode_in, with_all}
-use Rattle.ep_eval.specs.Walking.{IsWalkBehind, before_rest, numbers_left}
+use Rattle.ep_size.proofs.Words.{refl, ◌≡◌, ◌≤◌, ◌<◌, ◌^◌, ◌+◌, ◌∷◌, ℕ, List, drop, length, subst, [], ap, sym, ◌∙◌, arith, Option, w64, to_z, of_z, ◌++◌, flat_map, map, option_map, true, false, unwrap_or, to_z-of_z, ints, drop_all, drop_more, deeper, first_generator, first_within, of_kind, second_within, form_tree, index_at, quantified_tree, IsBelow, depth_of, end_depth, generators_depth, listing_depth, met-chain, met-in_domain, met-literal, met-named, met-read, holds_decision-quantified, scalar_in, with_number, domain_values, index_values, type_in, met, met_all, met_domain, met_index, met_indices, decisions_in, extents_of, hiding, holds_decision, measured_indices, measured_list, span_of, no_generators, domain_tree, end_of, expr_tree, expr_trees, generators_of, indices_of, terms_of, size-Domain, Expr, size-Expr, size-Generator, size-Kind, generators_first, generators_none, nodes_bare, nodes_part, met_bare, met_quantified, meets_some, no_runs, met-counts, met-one, met-truths, met-two, nodes_at, nodes_of, ranging_over, instance_env, instance_nodes, env_in, mode_in, with_all, IsWalkBehind, before_rest, numbers_left, IsKnownExtent, grid_of, known_at, known_of, measured_of, Told, HasInstances, instance_at, hidden_without, Every, most}
 use Rattle.ep_size.proofs.GeneratedSteps.{comprehension_told, conditions_stop, extents_bare, extents_part, listed_begins, listed_ends, listed_goes_on, name_stops, name_told, no_part_told, nothing_behind, part_told}
 use Rattle.ep_size.proofs.IndexParts.{literal_node, parts_begin, parts_end, parts_more}
 use Rattle.ep_size.proofs.ListNodes.{lists_finish}
@@ -33,16 +6,9 @@ use Rattle.ep_size.proofs.MeterSteps.{at_tree, going_stops, node_stops, node_tol
 use Rattle.ep_size.proofs.QuantifiedSteps.{bare_is, held_within, instancing_begins, instancing_ends, instancing_goes_on, meets_quantified, quantified_holds, quantified_number, spans_at, spans_told}
 use Rattle.ep_size.proofs.ReadForms.{indices_begin, indices_end, indices_more, met_every, met_stated, value_every, value_stated}
 use Rattle.ep_size.proofs.TermSteps.{chain_number, spans_of, terms_begin, terms_end, terms_more}
-use Rattle.ep_size.specs.Extents.{IsKnownExtent, grid_of}
-use Rattle.ep_size.specs.Generated.{known_at, known_of}
-use Rattle.ep_size.specs.Indices.{index_of, measured_of}
-use Rattle.ep_size.specs.Meters.{Told}
-use Rattle.ep_size.specs.Quantified.{HasInstances, instance_at}
-use Rattle.ep_size.specs.Standings.{hidden_without}
+use Rattle.ep_size.specs.Indices.{index_of}
 use Rattle.ep_size.specs.declared.extents.Extent.TheVariants.{Nothing}
-use Rattle.ep_size.specs.declared.reading.Indexed.TheVariants.{Every}
 use Rattle.ep_size.proofs.extending.+extending.Goals as goal
-use denote.Param.Weighed.{most}
 
 pub extent_of-fixed-requires : goal.extent_of-fixed-requires
 unfolding hidden_without

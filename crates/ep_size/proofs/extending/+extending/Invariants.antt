@@ -1,23 +1,10 @@
-use Rattle.std.proofs.Common.{◌+◌, ◌*◌, drop, length}
-use Rattle.ep_base.specs.declared.places.Place.{Place}
-use Rattle.ep_tree.specs.declared.syntax.Expr.{size-Expr}
-use Rattle.ep_forms.specs.Ranks.{depth_of, end_depth, generators_depth, listing_depth, walk_rank}
-use Rattle.ep_eval.proofs.GeneratingDepths.{ranging_depth}
-use Rattle.ep_eval.specs.Generating.{nodes_at}
-use Rattle.ep_eval.specs.Instances.{instance_nodes}
-use Rattle.ep_eval.specs.Scopes.{env_in, mode_in}
-use Rattle.ep_eval.specs.Walking.{IsWalk, numbers_left}
+use Rattle.ep_size.proofs.Words.{◌+◌, ◌*◌, drop, length, Place, size-Expr, depth_of, end_depth, generators_depth, listing_depth, walk_rank, ranging_depth, nodes_at, instance_nodes, env_in, mode_in, IsWalk, numbers_left, grid_of, known_at, instance_at, map, most}
 use Rattle.ep_size.proofs.GeneratedSteps.{ListedSoFar}
 use Rattle.ep_size.proofs.IndexParts.{PartsSoFar}
 use Rattle.ep_size.proofs.QuantifiedSteps.{Instancing}
 use Rattle.ep_size.proofs.ReadForms.{IndicesSoFar}
 use Rattle.ep_size.proofs.TermSteps.{TermsSoFar}
-use Rattle.ep_size.specs.Extents.{grid_of}
-use Rattle.ep_size.specs.Generated.{known_at}
-use Rattle.ep_size.specs.Quantified.{instance_at}
-use Rattle.std.specs.Prelude.{map}
 use Rattle.ep_size.proofs.extending.+extending.Given as goal
-use denote.Param.Weighed.{most}
 
 -- ---- what gets smaller
 

@@ -1,7 +1,4 @@
-use Rattle.ep_tree.specs.Measures.{met}
-use Rattle.ep_tree.specs.Reach.{decisions_in}
-use Rattle.ep_tree.specs.Views.{expr_tree}
-use Rattle.ep_eval.specs.Scopes.{env_in, mode_in}
+use Rattle.ep_size.proofs.Words.{met, decisions_in, expr_tree, env_in, mode_in}
 use Rattle.ep_size.proofs.FixedParts.{fixed_told, metering}
 use Rattle.ep_size.proofs.FreeParts.{free_holds, free_met, same_below}
 use Rattle.ep_size.proofs.MeterSteps.{told_as}

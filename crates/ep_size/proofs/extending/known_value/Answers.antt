@@ -1,11 +1,4 @@
-use Rattle.std.proofs.Common.{ap, ◌∙◌}
-use Rattle.ep_eval.specs.Helds.{seen_held}
-use Rattle.ep_tree_laws.proofs.FixedLimits.{extent_fixed}
-use Rattle.ep_tree.specs.Evaluation.{type_in}
-use Rattle.ep_tree.specs.Reach.{fixed_extent}
-use Rattle.ep_tree.specs.Views.{expr_tree}
-use Rattle.ep_eval.specs.Scopes.{env_in}
-use Rattle.ep_size.specs.Extents.{TellsValue, grid_of}
+use Rattle.ep_size.proofs.Words.{ap, ◌∙◌, seen_held, extent_fixed, type_in, fixed_extent, expr_tree, env_in, TellsValue, grid_of}
 use Rattle.ep_size.proofs.extending.known_value.Goals as goal
 
 pub returns-in-Some : goal.returns-in-Some

@@ -1,11 +1,4 @@
-use Rattle.std.proofs.Common.{ap, sym, ◌∙◌}
-use Rattle.std.specs.Prelude.{None, if◌then◌else◌}
-use Rattle.ep_tree_laws.proofs.FixedLimits.{extent_fixed}
-use Rattle.ep_tree.specs.Evaluation.{type_in}
-use Rattle.ep_tree.specs.Reach.{fixed_extent, fixed_span, no_extent}
-use Rattle.ep_tree.specs.Types.{is_integer}
-use Rattle.ep_tree.specs.Values.{single}
-use Rattle.ep_size.specs.Extents.{TellsValue, grid_of}
+use Rattle.ep_size.proofs.Words.{ap, sym, ◌∙◌, None, if◌then◌else◌, extent_fixed, type_in, fixed_extent, fixed_span, no_extent, is_integer, single, TellsValue, grid_of}
 use Rattle.ep_size.proofs.extending.without_value.Goals as goal
 
 pub returns-in-Bool : goal.returns-in-Bool

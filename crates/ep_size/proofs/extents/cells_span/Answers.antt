@@ -1,8 +1,5 @@
-use Rattle.std.proofs.Common.{ap, sym, ◌∙◌}
-use Rattle.ep_eval.proofs.WalkSteps.{no_runs}
+use Rattle.ep_size.proofs.Words.{ap, sym, ◌∙◌, no_runs, filled, plain_span}
 use Rattle.ep_tree.specs.Reach as defined
-use Rattle.ep_tree.specs.Values.{filled}
-use Rattle.ep_size.specs.Extents.{plain_span}
 use Rattle.ep_size.proofs.extents.cells_span.Goals as goal
 
 pub returns-in-Some : goal.returns-in-Some

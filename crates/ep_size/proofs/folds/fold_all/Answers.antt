@@ -1,7 +1,4 @@
-use Rattle.std.proofs.Common.{subst, arith, map, take, drop, ◌+◌}
-use Rattle.std.proofs.lemmas.Result.{err_from_is_err_and}
-use Rattle.ep_size.specs.Extents.{plain_span}
-use Rattle.ep_size.specs.Folds.{Folds, RefusesFold}
+use Rattle.ep_size.proofs.Words.{subst, arith, map, take, drop, ◌+◌, err_from_is_err_and, plain_span, Folds, RefusesFold}
 use Rattle.ep_size.proofs.ListSteps.{fed, fed_all, fed_at_most, fed_whole}
 use Rattle.ep_size.proofs.folds.fold_all.Goals as goal
 

@@ -1,6 +1,4 @@
-use Rattle.std.proofs.Common.{take, map}
-use Rattle.ep_size.specs.Extents.{plain_span}
-use Rattle.ep_size.specs.Folds.{Folds}
+use Rattle.ep_size.proofs.Words.{take, map, plain_span, Folds}
 use Rattle.ep_size.proofs.folds.fold_all.Given as goal
 
 abbrev pub invariant-loop-span : goal.invariant-loop-span

@@ -1,10 +1,4 @@
-use Rattle.std.proofs.Common.{subst, sym, refl, ◌∙◌, Ok}
-use Rattle.ep_base.specs.Intervals.{farthest_end}
-use Rattle.ep_base.specs.Numbers.{absolute_of}
-use Rattle.ep_base.specs.Reads.{is_too_far}
-use Rattle.ep_tree.specs.Reach.{binary_span, wide_span}
-use Rattle.ep_size.specs.Extents.{plain_span}
-use Rattle.ep_size.specs.Finishing.{Gives}
+use Rattle.ep_size.proofs.Words.{subst, sym, refl, ◌∙◌, Ok, farthest_end, absolute_of, is_too_far, binary_span, wide_span, plain_span, Gives}
 use Rattle.ep_size.proofs.forms.binary_span.Goals as goal
 
 pub returns-in-Mul : goal.returns-in-Mul

@@ -1,9 +1,6 @@
-use Rattle.std.proofs.Common.{ap}
-use Rattle.ep_forms.specs.Forms.{counts_node}
-use Rattle.ep_tree.specs.Trees.{at_least, at_most, gcc}
+use Rattle.ep_size.proofs.Words.{ap, counts_node, at_least, at_most, gcc, grid_of}
 use Rattle.ep_size.proofs.NodeSteps.{finished_at}
 use Rattle.ep_size.proofs.MatrixSteps.{at_least_number, at_most_number, gcc_number}
-use Rattle.ep_size.specs.Extents.{grid_of}
 use Rattle.ep_size.proofs.forms.finish_counts.Goals as goal
 
 pub returns-in-Gcc : goal.returns-in-Gcc

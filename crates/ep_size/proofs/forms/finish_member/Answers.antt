@@ -1,10 +1,6 @@
-use Rattle.std.proofs.Common.{ap, ◌∙◌}
-use Rattle.ep_base.specs.Intervals.{width}
+use Rattle.ep_size.proofs.Words.{ap, ◌∙◌, width, in_domain, grid_of, capped}
 use Rattle.ep_tree.specs.Reach as defined
-use Rattle.ep_tree.specs.Trees.{in_domain}
 use Rattle.ep_size.proofs.FormSteps.{in_domain_number, one_width}
-use Rattle.ep_size.specs.Extents.{grid_of}
-use Rattle.ep_size.specs.Totals.{capped}
 use Rattle.ep_size.proofs.forms.finish_member.Goals as goal
 
 pub returns : goal.returns

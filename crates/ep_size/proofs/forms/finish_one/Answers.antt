@@ -1,16 +1,7 @@
-use Rattle.std.proofs.Common.{Ok, ap, refl, subst, ◌∙◌}
-use Rattle.ep_base.specs.Intervals.{absolute_interval}
-use Rattle.ep_forms.specs.Forms.{one_node}
-use Rattle.ep_tree.specs.Reach.{negated_span, wide_span}
-use Rattle.ep_tree.specs.Trees.{absolute, all_different, folded, minus, negation, to_int}
-use Rattle.ep_tree.specs.Views.{expr_tree}
-use Rattle.ep_eval.specs.Scopes.{env_in}
+use Rattle.ep_size.proofs.Words.{Ok, ap, refl, subst, ◌∙◌, absolute_interval, one_node, negated_span, wide_span, absolute, all_different, folded, minus, negation, to_int, expr_tree, env_in, grid_of, Gives, capped}
 use Rattle.ep_size.proofs.FormSteps.{absolute_number, minus_number, negation_number, to_int_number}
 use Rattle.ep_size.proofs.NodeSteps.{finished_at}
 use Rattle.ep_size.proofs.MatrixSteps.{all_different_number, folded_node}
-use Rattle.ep_size.specs.Extents.{grid_of}
-use Rattle.ep_size.specs.Finishing.{Gives}
-use Rattle.ep_size.specs.Totals.{capped}
 use Rattle.ep_size.proofs.forms.finish_one.Goals as goal
 
 pub returns-in-Group : goal.returns-in-Group

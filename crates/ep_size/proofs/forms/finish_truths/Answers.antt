@@ -1,8 +1,5 @@
-use Rattle.std.proofs.Common.{◌+◌, length, ap, ◌∙◌}
-use Rattle.ep_forms.specs.Forms.{truths_node}
-use Rattle.ep_tree.specs.Views.{expr_trees}
+use Rattle.ep_size.proofs.Words.{◌+◌, length, ap, ◌∙◌, truths_node, expr_trees, capped}
 use Rattle.ep_size.proofs.FormSteps.{truths_number}
-use Rattle.ep_size.specs.Totals.{capped}
 use Rattle.ep_size.proofs.forms.finish_truths.Goals as goal
 
 pub returns : goal.returns

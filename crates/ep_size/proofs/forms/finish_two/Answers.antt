@@ -1,17 +1,8 @@
-use Rattle.std.proofs.Common.{◌∷◌, [], Ok, ap, length, subst, ◌∙◌}
-use Rattle.ep_forms.specs.Forms.{two_node}
-use Rattle.ep_tree.specs.Evaluation.{evaluate, number_in}
-use Rattle.ep_tree.specs.Measures.{binary_weight, widths}
-use Rattle.ep_tree.specs.Reach.{binary_span, decisions_in, extent, holds_decision, span_of}
-use Rattle.ep_tree.specs.Trees.{binary, compare, in_set, lex, table}
-use Rattle.ep_tree.specs.Values.{rows_of}
+use Rattle.ep_size.proofs.Words.{◌∷◌, [], Ok, ap, length, subst, ◌∙◌, two_node, evaluate, number_in, binary_weight, widths, binary_span, decisions_in, extent, holds_decision, span_of, binary, compare, in_set, lex, table, rows_of, grid_of, Gives, capped}
 use Rattle.ep_size.proofs.FormSteps.{binary_number, compare_number}
 use Rattle.ep_size.proofs.NodeSteps.{finished_at}
 use Rattle.ep_size.proofs.MatrixSteps.{in_set_number, lex_number, table_number}
 use Rattle.ep_size.specs.Extents as own
-use Rattle.ep_size.specs.Extents.{grid_of}
-use Rattle.ep_size.specs.Finishing.{Gives}
-use Rattle.ep_size.specs.Totals.{capped}
 use Rattle.ep_size.proofs.forms.finish_two.Goals as goal
 
 pub returns-in-Compare : goal.returns-in-Compare

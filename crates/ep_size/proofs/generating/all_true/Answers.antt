@@ -1,8 +1,4 @@
-use Rattle.std.proofs.Common.{◌+◌, ◌∷◌, ℕ, List, ap, drop, sym, ◌∙◌}
-use Rattle.std.proofs.lemmas.List.{drop_all, drop_more}
-use Rattle.ep_tree.specs.declared.syntax.Expr.{Expr}
-use Rattle.ep_eval.specs.Helds.{seen_held}
-use Rattle.ep_eval.specs.Scopes.{env_in, mode_in}
+use Rattle.ep_size.proofs.Words.{◌+◌, ◌∷◌, ℕ, List, ap, drop, sym, ◌∙◌, drop_all, drop_more, Expr, seen_held, env_in, mode_in}
 use Rattle.ep_size.proofs.GeneratedSteps.{conditions_begin, conditions_end, conditions_more}
 use Rattle.ep_size.proofs.generating.all_true.Goals as goal
 

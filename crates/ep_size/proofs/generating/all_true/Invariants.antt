@@ -1,5 +1,4 @@
-use Rattle.std.proofs.Common.{drop}
-use Rattle.ep_eval.specs.Scopes.{env_in, mode_in}
+use Rattle.ep_size.proofs.Words.{drop, env_in, mode_in}
 use Rattle.ep_size.proofs.GeneratedSteps.{ConditionsSoFar}
 use Rattle.ep_size.proofs.generating.all_true.Given as goal
 

@@ -1,11 +1,6 @@
-use Rattle.std.proofs.Common.{ap, sym, ◌∙◌}
-use Rattle.ep_tree.specs.Reach.{decisions_in}
-use Rattle.ep_tree.specs.Measures.{met}
-use Rattle.ep_tree.specs.Views.{expr_tree}
-use Rattle.ep_eval.specs.Scopes.{env_in, mode_in}
+use Rattle.ep_size.proofs.Words.{ap, sym, ◌∙◌, decisions_in, met, expr_tree, env_in, mode_in, hidden_without}
 use Rattle.ep_size.proofs.FixedParts.{fixed_told}
 use Rattle.ep_size.proofs.FreeParts.{free_met, same_below}
-use Rattle.ep_size.specs.Standings.{hidden_without}
 use Rattle.ep_size.proofs.generating.fixed_value.Goals as goal
 
 pub returns-then-own : goal.returns-then-own

@@ -1,8 +1,4 @@
-use Rattle.std.proofs.Common.{ap, sym, ◌∙◌, arith}
-use Rattle.std.proofs.lemmas.Int.{ints}
-use Rattle.std.specs.Prelude.{false, option_map, unwrap_or}
-use Rattle.ep_base.specs.Numbers.{is_one}
-use Rattle.ep_eval.proofs.Reaches.{is_one_word}
+use Rattle.ep_size.proofs.Words.{ap, sym, ◌∙◌, arith, ints, false, option_map, unwrap_or, is_one, is_one_word}
 use Rattle.ep_size.proofs.generating.is_one.Goals as goal
 
 pub returns-in-Some : goal.returns-in-Some

@@ -1,8 +1,4 @@
-use Rattle.std.proofs.Common.{refl, subst}
-use Rattle.std.specs.Prelude.{◌≡◌, IfOk}
-use Rattle.ep_tree.specs.Evaluation.{type_in}
-use Rattle.ep_tree.specs.Views.{expr_tree}
-use Rattle.ep_eval.specs.Scopes.{env_in}
+use Rattle.ep_size.proofs.Words.{refl, subst, ◌≡◌, IfOk, type_in, expr_tree, env_in}
 use Rattle.ep_size.proofs.GroupSteps.{same_group, truth_group}
 use Rattle.ep_size.proofs.groups.group_node.Goals as goal
 

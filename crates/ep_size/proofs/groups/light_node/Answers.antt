@@ -1,9 +1,5 @@
-use Rattle.std.proofs.Common.{ap, refl, subst, ◌∙◌}
-use Rattle.ep_eval.proofs.WalkSteps.{no_runs}
-use Rattle.ep_tree.specs.Values.{filled}
+use Rattle.ep_size.proofs.Words.{ap, refl, subst, ◌∙◌, no_runs, filled, IsKnownExtent, TellsValue, grid_of, plain_span, IsLightNode}
 use Rattle.ep_size.proofs.GroupSteps.{both_ways, light_cells, light_matrix, light_number}
-use Rattle.ep_size.specs.Extents.{IsKnownExtent, TellsValue, grid_of, plain_span}
-use Rattle.ep_size.specs.Finishing.{IsLightNode}
 use Rattle.ep_size.proofs.groups.light_node.Goals as goal
 
 pub returns-in-Number : goal.returns-in-Number

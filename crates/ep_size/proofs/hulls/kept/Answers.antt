@@ -1,9 +1,6 @@
-use Rattle.std.proofs.Common.{subst, refl, sym}
+use Rattle.ep_size.proofs.Words.{subst, refl, sym, plain_span, wide_interval, Keeps}
 use Rattle.ep_size.proofs.HullSteps.{kept_gives}
 use Rattle.ep_size.proofs.NodeSteps.{err_gives}
-use Rattle.ep_size.specs.Extents.{plain_span}
-use Rattle.ep_numbers.specs.Spans.{wide_interval}
-use Rattle.ep_size.specs.Spans.{Keeps}
 use Rattle.ep_size.proofs.hulls.kept.Goals as goal
 
 pub returns-in-Ok : goal.returns-in-Ok

@@ -1,12 +1,6 @@
-use Rattle.std.proofs.Common.{◌≡◌, ℕ, ◌+◌, ◌*◌, ap, ◌∙◌, arith, length}
-use Rattle.std.specs.Prelude.{sum_by}
-use Rattle.ep_base.specs.Intervals.{width}
-use Rattle.ep_tree.specs.Measures.{index_width}
+use Rattle.ep_size.proofs.Words.{◌≡◌, ℕ, ◌+◌, ◌*◌, ap, ◌∙◌, arith, length, sum_by, width, index_width, plain_span, interval_of, capped}
 use Rattle.ep_size.proofs.Caps.{product_kept}
 use Rattle.ep_size.proofs.HullSteps.{read_none, read_some}
-use Rattle.ep_size.specs.Extents.{plain_span}
-use Rattle.ep_numbers.specs.Spans.{interval_of}
-use Rattle.ep_size.specs.Totals.{capped}
 use Rattle.ep_size.proofs.hulls.read_weight.Goals as goal
 
 pub returns-then-not-is_decided-clause-weight : goal.returns-then-not-is_decided-clause-weight

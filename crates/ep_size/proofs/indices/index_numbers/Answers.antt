@@ -1,15 +1,6 @@
-use Rattle.std.proofs.Common.{◌≡◌, ℕ, ap, subst, ◌∙◌}
-use Rattle.std.specs.Prelude.{None}
-use Rattle.ep_forms.specs.Forms.{index_at}
-use Rattle.ep_tree.specs.Evaluation.{domain_values, index_values}
-use Rattle.ep_tree.specs.Measures.{met_domain}
-use Rattle.ep_tree.specs.Reach.{measured_indices}
-use Rattle.ep_tree.specs.Views.{domain_tree}
-use Rattle.ep_eval.proofs.LiteralForms.{index_values-none, index_values-some, met_index-none, met_index-some}
-use Rattle.ep_eval.specs.Scopes.{env_in, mode_in}
+use Rattle.ep_size.proofs.Words.{◌≡◌, ℕ, ap, subst, ◌∙◌, None, index_at, domain_values, index_values, met_domain, measured_indices, domain_tree, index_values-none, index_values-some, met_index-none, met_index-some, env_in, mode_in, Told}
 use Rattle.ep_size.proofs.IndexParts.{indices_unstated}
 use Rattle.ep_size.proofs.MeterSteps.{told_as, told_none}
-use Rattle.ep_size.specs.Meters.{Told}
 use Rattle.ep_size.proofs.indices.index_numbers.Goals as goal
 
 pub returns-in_ok-numbers-in-Some : goal.returns-in_ok-numbers-in-Some

@@ -1,7 +1,4 @@
-use Rattle.std.proofs.Common.{ap, sym, ◌∙◌}
-use Rattle.ep_tree.specs.Reach.{span_of}
-use Rattle.ep_tree.specs.Values.{single}
-use Rattle.ep_size.specs.Extents.{TellsValue, grid_of}
+use Rattle.ep_size.proofs.Words.{ap, sym, ◌∙◌, span_of, single, TellsValue, grid_of}
 use Rattle.ep_size.proofs.instances.bare_quantifier.Goals as goal
 
 pub returns : goal.returns

@@ -1,8 +1,4 @@
-use Rattle.std.proofs.Common.{◌+◌, [], length, subst, arith}
-use Rattle.std.specs.Prelude.{unwrap_or}
-use Rattle.ep_tree.specs.Measures.{quantified_weight}
-use Rattle.ep_tree.specs.Reach.{quantified_span}
-use Rattle.ep_size.specs.Finishing.{IsNumberNode}
+use Rattle.ep_size.proofs.Words.{◌+◌, [], length, subst, arith, unwrap_or, quantified_weight, quantified_span, IsNumberNode}
 use Rattle.ep_size.proofs.instances.finish_quantifier.Goals as goal
 
 pub returns-in-ForAll : goal.returns-in-ForAll

@@ -1,8 +1,4 @@
-use Rattle.std.proofs.Common.{refl, sym, ap, ◌∙◌, ◌≡◌}
-use Rattle.ep_base.specs.Intervals.{farthest_end}
-use Rattle.ep_base.specs.Reads.{is_too_far}
-use Rattle.ep_numbers.proofs.Ends.{reach_near, untold_reach}
-use Rattle.ep_numbers.specs.Spans.{interval_of, wide_interval}
+use Rattle.ep_size.proofs.Words.{refl, sym, ap, ◌∙◌, ◌≡◌, farthest_end, is_too_far, reach_near, untold_reach, interval_of, wide_interval}
 use Rattle.ep_size.proofs.intervals.near.Goals as goal
 
 pub returns-in-Some : goal.returns-in-Some

@@ -1,5 +1,4 @@
-use Rattle.std.proofs.Common.{◌≡◌, pos}
-use Rattle.ep_base.specs.Runs.{counting}
+use Rattle.ep_size.proofs.Words.{◌≡◌, pos, counting}
 use Rattle.ep_size.proofs.lists.first_numbers.Given as goal
 
 abbrev pub invariant-loop-i : goal.invariant-loop-i

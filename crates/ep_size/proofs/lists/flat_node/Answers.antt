@@ -1,9 +1,5 @@
-use Rattle.std.proofs.Common.{ap, ◌∙◌}
-use Rattle.std.specs.Prelude.{map}
-use Rattle.std.proofs.lemmas.Result.{err_from_is_err_and}
-use Rattle.ep_tree.specs.Trees.{flatten}
+use Rattle.ep_size.proofs.Words.{ap, ◌∙◌, map, err_from_is_err_and, flatten, plain_span}
 use Rattle.ep_size.proofs.ListNodes.{flatten_node, lists_finish, memory_stops}
-use Rattle.ep_size.specs.Extents.{plain_span}
 use Rattle.ep_size.proofs.lists.flat_node.Goals as goal
 
 pub returns : goal.returns

@@ -1,9 +1,5 @@
-use Rattle.std.proofs.Common.{◌∷◌, ◌++◌, [], ◌+◌, pos, ℕ, map, sym, ap, ◌∙◌, arith}
-use Rattle.std.proofs.lemmas.Int.{ints}
-use Rattle.ep_base.specs.Runs.{counting}
-use Rattle.ep_numbers.proofs.Counting.{counting_more}
+use Rattle.ep_size.proofs.Words.{◌∷◌, ◌++◌, [], ◌+◌, pos, ℕ, map, sym, ap, ◌∙◌, arith, ints, counting, counting_more, grid_of}
 use Rattle.ep_size.proofs.ListNodes.{list_all, list_more}
-use Rattle.ep_size.specs.Extents.{grid_of}
 use Rattle.ep_size.proofs.lists.list_of.Goals as goal
 
 pub loop-i-init : goal.loop-i-init

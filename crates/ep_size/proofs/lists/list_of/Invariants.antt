@@ -1,8 +1,4 @@
-use Rattle.std.proofs.Common.{◌≡◌, pos, take}
-use Rattle.std.specs.Prelude.{map}
-use Rattle.ep_base.specs.Runs.{counting}
-use Rattle.ep_tree.specs.Values.{single}
-use Rattle.ep_size.specs.Extents.{grid_of, plain_span}
+use Rattle.ep_size.proofs.Words.{◌≡◌, pos, take, map, counting, single, grid_of, plain_span}
 use Rattle.ep_size.proofs.lists.list_of.Given as goal
 
 abbrev pub invariant-loop-i : goal.invariant-loop-i

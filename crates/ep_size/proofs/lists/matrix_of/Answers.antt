@@ -1,11 +1,5 @@
-use Rattle.std.proofs.Common.{◌≡◌, ap, subst, ◌∙◌, length, vec_len, rules}
-use Rattle.std.specs.Prelude.{map}
-use Rattle.ep_tree.specs.Values.{as_parts, matrix}
+use Rattle.ep_size.proofs.Words.{◌≡◌, ap, subst, ◌∙◌, length, vec_len, rules, map, as_parts, matrix, grid_of, TellsExtent, Matrix, measured_indices}
 use Rattle.ep_size.proofs.ListNodes.{listed_matrix}
-use Rattle.ep_size.specs.Extents.{grid_of}
-use Rattle.ep_size.specs.Lists.{TellsExtent}
-use Rattle.ep_size.specs.declared.extents.Extent.{Matrix}
-use Rattle.ep_tree.specs.Reach.{measured_indices}
 use Rattle.ep_size.proofs.lists.matrix_of.Goals as goal
 
 pub returns : goal.returns

@@ -1,7 +1,5 @@
-use Rattle.ep_tree.specs.Measures.{counting_weight}
-use Rattle.ep_tree.specs.Values.{scalars_of}
+use Rattle.ep_size.proofs.Words.{counting_weight, scalars_of, grid_of}
 use Rattle.ep_size.proofs.MatrixSteps.{counted_of}
-use Rattle.ep_size.specs.Extents.{grid_of}
 use Rattle.ep_size.proofs.matrices.finish_counting.Goals as goal
 
 pub returns : goal.returns

@@ -1,8 +1,5 @@
-use Rattle.std.proofs.Common.{◌*◌, length}
-use Rattle.ep_tree.specs.Measures.{widths}
-use Rattle.ep_tree.specs.Values.{scalars_of}
+use Rattle.ep_size.proofs.Words.{◌*◌, length, widths, scalars_of, grid_of}
 use Rattle.ep_size.proofs.MatrixSteps.{counted_of}
-use Rattle.ep_size.specs.Extents.{grid_of}
 use Rattle.ep_size.proofs.matrices.finish_different.Goals as goal
 
 pub returns : goal.returns

@@ -1,8 +1,5 @@
-use Rattle.std.proofs.Common.{subst, ap, map, ◌∙◌}
-use Rattle.ep_tree.specs.Values.{scalars_of}
+use Rattle.ep_size.proofs.Words.{subst, ap, map, ◌∙◌, scalars_of, grid_of, plain_span, RefusesFold}
 use Rattle.ep_size.proofs.MatrixSteps.{fold_refused}
-use Rattle.ep_size.specs.Extents.{grid_of, plain_span}
-use Rattle.ep_size.specs.Folds.{RefusesFold}
 use Rattle.ep_size.proofs.matrices.finish_fold.Goals as goal
 
 pub returns : goal.returns

@@ -1,11 +1,5 @@
-use Rattle.std.proofs.Common.{◌+◌, ◌*◌, length, ap, ◌∙◌}
-use Rattle.ep_base.specs.Intervals.{width}
-use Rattle.ep_tree.specs.Measures.{widths}
-use Rattle.ep_tree.specs.Reach.{span_of}
-use Rattle.ep_tree.specs.Values.{scalars_of}
+use Rattle.ep_size.proofs.Words.{◌+◌, ◌*◌, length, ap, ◌∙◌, width, widths, span_of, scalars_of, grid_of, capped}
 use Rattle.ep_size.proofs.MatrixSteps.{counted_of}
-use Rattle.ep_size.specs.Extents.{grid_of}
-use Rattle.ep_size.specs.Totals.{capped}
 use Rattle.ep_size.proofs.matrices.finish_set.Goals as goal
 
 pub returns : goal.returns

@@ -1,7 +1,5 @@
-use Rattle.std.proofs.Common.{subst}
-use Rattle.ep_tree.specs.Measures.{folded_weight}
+use Rattle.ep_size.proofs.Words.{subst, folded_weight, GivesFold}
 use Rattle.ep_size.proofs.MatrixSteps.{fold_finished, fold_refused}
-use Rattle.ep_size.specs.Folds.{GivesFold}
 use Rattle.ep_size.proofs.matrices.fold_node.Goals as goal
 
 pub returns-in-Ok : goal.returns-in-Ok

@@ -1,6 +1,4 @@
-use Rattle.std.proofs.Common.{arith}
-use Rattle.std.proofs.lemmas.Result.{err_from_is_err_and}
-use Rattle.ep_instance_parts.specs.Instances.{instance_mode, plain_instance}
+use Rattle.ep_size.proofs.Words.{arith, err_from_is_err_and, instance_mode, plain_instance}
 use Rattle.ep_size.proofs.Wholes.{cells_refuse, instance_passed, too_heavy, whole_size, whole_weight, whole_within}
 use Rattle.ep_size.proofs.measuring.measure.Goals as goal
 

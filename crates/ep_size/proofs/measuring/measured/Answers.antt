@@ -1,17 +1,6 @@
-use Rattle.std.proofs.Common.{◌≡◌, ap, subst, sym, ◌∙◌}
-use Rattle.std.specs.Prelude.{map, option_map, option_to_list}
-use Rattle.std.proofs.lemmas.Result.{err_from_is_err_and}
-use Rattle.ep_eval.specs.Known.{env_of}
-use Rattle.ep_instance_parts.specs.Instances.{goal_of, instance_mode, plain_instance}
+use Rattle.ep_size.proofs.Words.{◌≡◌, ap, subst, sym, ◌∙◌, map, option_map, option_to_list, err_from_is_err_and, env_of, goal_of, instance_mode, plain_instance, met_in, put_all, cells_bound, expr_tree, IsTooMany, Told, Celled, all_cells}
 use Rattle.ep_size.proofs.RemainingSteps.{mapped_twice}
-use Rattle.ep_tree.specs.Binding.{met_in}
-use Rattle.ep_tree.specs.Names.{put_all}
-use Rattle.ep_tree.specs.Solutions.{cells_bound}
-use Rattle.ep_tree.specs.Views.{expr_tree}
 use Rattle.ep_size.proofs.Wholes.{behind_cells, env_within, goal_within, moved, whole}
-use Rattle.ep_size.specs.Causes.{IsTooMany}
-use Rattle.ep_size.specs.Meters.{Told}
-use Rattle.ep_size.specs.Totals.{Celled, all_cells}
 use Rattle.ep_size.proofs.measuring.measured.Goals as goal
 
 pub returns-in_err-cells-clause-cause : goal.returns-in_err-cells-clause-cause

@@ -1,11 +1,5 @@
-use Rattle.std.proofs.Common.{Some, ap, subst, sym, ◌∙◌}
-use Rattle.ep_eval.proofs.WalkSteps.{no_runs}
-use Rattle.ep_tree.specs.Environments.{has_cells}
-use Rattle.ep_tree.specs.Values.{filled}
+use Rattle.ep_size.proofs.Words.{Some, ap, subst, sym, ◌∙◌, no_runs, has_cells, filled, TellsValue, grid_of, plain_span, wide_interval, Keeps}
 use Rattle.ep_size.proofs.NamedSteps.{cell_finished, cell_refused, cells_finished}
-use Rattle.ep_size.specs.Extents.{TellsValue, grid_of, plain_span}
-use Rattle.ep_numbers.specs.Spans.{wide_interval}
-use Rattle.ep_size.specs.Spans.{Keeps}
 use Rattle.ep_size.proofs.named.cells_with.Goals as goal
 
 pub returns-in-Some : goal.returns-in-Some

@@ -1,7 +1,4 @@
-use Rattle.std.proofs.Common.{ap, sym, ◌∙◌, arith, w64, to_z, of_z}
-use Rattle.std.proofs.lemmas.Int.{ints, to_z-of_z}
-use Rattle.ep_base.specs.Intervals.{from_to, width}
-use Rattle.ep_numbers.proofs.Counting.{length_of_run}
+use Rattle.ep_size.proofs.Words.{ap, sym, ◌∙◌, arith, w64, to_z, of_z, ints, to_z-of_z, from_to, width, length_of_run}
 use Rattle.ep_size.proofs.named.count_in.Goals as goal
 
 pub returns : goal.returns

@@ -1,4 +1,4 @@
-use Rattle.std.proofs.Common.{ap, refl, length, arith}
+use Rattle.ep_size.proofs.Words.{ap, refl, length, arith}
 use Rattle.ep_size.proofs.RunCounts.{count_more, numbers_none}
 use Rattle.ep_size.proofs.named.count_of.Goals as goal
 

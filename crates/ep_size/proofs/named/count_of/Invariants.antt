@@ -1,5 +1,4 @@
-use Rattle.std.proofs.Common.{◌≡◌, ◌+◌, drop, length}
-use Rattle.ep_base.specs.Runs.{numbers}
+use Rattle.ep_size.proofs.Words.{◌≡◌, ◌+◌, drop, length, numbers}
 use Rattle.ep_size.proofs.named.count_of.Given as goal
 
 abbrev pub invariant-loop-run : goal.invariant-loop-run

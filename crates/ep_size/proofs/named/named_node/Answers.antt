@@ -1,8 +1,4 @@
-use Rattle.std.proofs.Common.{ap, sym, ◌∙◌}
-use Rattle.std.specs.Prelude.{option_map}
-use Rattle.ep_eval.specs.Bounds.{cells_of}
-use Rattle.ep_eval.specs.Known.{env_of}
-use Rattle.ep_eval.specs.Scopes.{env_in, mode_in}
+use Rattle.ep_size.proofs.Words.{ap, sym, ◌∙◌, option_map, cells_of, env_of, env_in, mode_in}
 use Rattle.ep_size.proofs.LookSteps.{only_cells_is}
 use Rattle.ep_size.proofs.named.named_node.Goals as goal
 

@@ -1,5 +1,4 @@
-use Rattle.std.proofs.Common.{subst}
-use Rattle.ep_size.specs.Finishing.{Gives}
+use Rattle.ep_size.proofs.Words.{subst, Gives}
 use Rattle.ep_size.proofs.NodeSteps.{number_finished, number_refused}
 use Rattle.ep_size.proofs.nodes.number_node.Goals as goal
 

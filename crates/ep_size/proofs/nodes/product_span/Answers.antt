@@ -1,12 +1,5 @@
-use Rattle.std.proofs.Common.{ap, subst, sym, ◌∙◌}
-use Rattle.std.specs.Prelude.{if◌then◌else◌}
-use Rattle.ep_base.specs.Intervals.{farthest_end}
-use Rattle.ep_base.specs.Reads.{is_too_far}
-use Rattle.ep_tree.specs.Reach.{product_span, wide_span, with_spread}
+use Rattle.ep_size.proofs.Words.{ap, subst, sym, ◌∙◌, if◌then◌else◌, farthest_end, is_too_far, product_span, wide_span, with_spread, plain_span, wide_interval, Keeps}
 use Rattle.ep_size.proofs.NodeSteps.{err_gives, product_reach}
-use Rattle.ep_size.specs.Extents.{plain_span}
-use Rattle.ep_numbers.specs.Spans.{wide_interval}
-use Rattle.ep_size.specs.Spans.{Keeps}
 use Rattle.ep_size.proofs.nodes.product_span.Goals as goal
 
 pub returns-in-Ok : goal.returns-in-Ok

@@ -1,8 +1,4 @@
-use Rattle.std.proofs.Common.{refl}
-use Rattle.ep_base.specs.Intervals.{farthest_end}
-use Rattle.ep_base.specs.Numbers.{absolute_of}
-use Rattle.ep_base.specs.Reads.{is_too_far}
-use Rattle.ep_tree.specs.Reach.{truth_span}
+use Rattle.ep_size.proofs.Words.{refl, farthest_end, absolute_of, is_too_far, truth_span}
 use Rattle.ep_size.proofs.NodeSteps.{number_finished}
 use Rattle.ep_size.proofs.nodes.truth_node.Goals as goal
 

@@ -1,8 +1,5 @@
-use Rattle.std.proofs.Common.{ap, subst, refl, ◌∙◌}
-use Rattle.ep_tree.specs.Reach.{wide_span}
+use Rattle.ep_size.proofs.Words.{ap, subst, refl, ◌∙◌, wide_span, wide_interval, Keeps}
 use Rattle.ep_size.proofs.NodeSteps.{err_gives}
-use Rattle.ep_numbers.specs.Spans.{wide_interval}
-use Rattle.ep_size.specs.Spans.{Keeps}
 use Rattle.ep_size.proofs.nodes.wide.Goals as goal
 
 pub returns-in-Ok : goal.returns-in-Ok

@@ -1,8 +1,6 @@
-use Rattle.std.proofs.Common.{◌++◌, ◌∙◌, List, ap, drop, subst, sym}
-use Rattle.std.proofs.lemmas.List.{drop_all}
+use Rattle.ep_size.proofs.Words.{◌++◌, ◌∙◌, List, ap, drop, subst, sym, drop_all, grid_of}
 use Rattle.ep_size.proofs.PartedSteps.{CopiedSoFar, copied_done}
 use Rattle.ep_size.proofs.ListNodes.{if_ok}
-use Rattle.ep_size.specs.Extents.{grid_of}
 use Rattle.ep_size.specs.declared.extents.Extent.{Extent}
 use Rattle.ep_size.proofs.parted.+copied.Goals as goal
 

@@ -1,4 +1,4 @@
-use Rattle.std.proofs.Common.{drop}
+use Rattle.ep_size.proofs.Words.{drop}
 use Rattle.ep_size.proofs.PartedSteps.{CopiedSoFar}
 use Rattle.ep_size.proofs.parted.+copied.Given as goal
 

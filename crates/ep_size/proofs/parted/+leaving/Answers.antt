@@ -1,18 +1,8 @@
-use Rattle.std.proofs.Common.{◌≡◌, ◌∷◌, ◌++◌, ◌+◌, ◌∙◌, ℕ, List, None, Some, ap, arith, drop, map, rules, subst, sym, w64, to_z, of_z}
-use Rattle.std.specs.Prelude.{option_map}
-use Rattle.std.proofs.lemmas.Int.{ints, to_z-of_z}
-use Rattle.std.proofs.lemmas.List.{drop_all, drop_more}
-use Rattle.ep_eval.proofs.WalkSteps.{no_runs}
-use Rattle.ep_tree.specs.Reach.{fixed_span}
-use Rattle.ep_tree.specs.Values.{filled, matrix, part_at, read_value}
+use Rattle.ep_size.proofs.Words.{◌≡◌, ◌∷◌, ◌++◌, ◌+◌, ◌∙◌, ℕ, List, None, Some, ap, arith, drop, map, rules, subst, sym, w64, to_z, of_z, option_map, ints, to_z-of_z, drop_all, drop_more, no_runs, fixed_span, filled, matrix, part_at, read_value, grid_of, grids_from, plain_span, measured_of, ReadsGrid, Stated}
 use Rattle.ep_size.proofs.ExtentViews.{grid_of-matrix}
 use Rattle.ep_size.proofs.PartedSteps.{left_begin, left_done, left_more, left_none, nothing_read, number_read, part_read, stated_nowhere, stated_read}
 use Rattle.ep_size.proofs.ListNodes.{if_ok}
-use Rattle.ep_size.specs.Extents.{grid_of, grids_from, plain_span}
-use Rattle.ep_size.specs.Indices.{measured_of}
-use Rattle.ep_size.specs.Slices.{ReadsGrid}
 use Rattle.ep_size.specs.declared.extents.Extent.{Extent}
-use Rattle.ep_size.specs.declared.reading.Indexed.TheVariants.{Stated}
 use Rattle.ep_size.proofs.parted.+leaving.Goals as goal
 
 pub left_at-returns-in-Some-clause-read : goal.left_at-returns-in-Some-clause-read

@@ -1,6 +1,5 @@
-use Rattle.std.proofs.Common.{◌+◌, ◌*◌, drop, length, map}
+use Rattle.ep_size.proofs.Words.{◌+◌, ◌*◌, drop, length, map, measured_of}
 use Rattle.ep_size.proofs.PartedSteps.{LeftSoFar}
-use Rattle.ep_size.specs.Indices.{measured_of}
 use Rattle.ep_size.proofs.parted.+leaving.Given as goal
 
 abbrev pub decreases-left_of : goal.decreases-left_of

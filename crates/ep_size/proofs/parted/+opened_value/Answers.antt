@@ -1,13 +1,5 @@
-use Rattle.std.proofs.Common.{◌≡◌, ◌++◌, ◌∙◌, List, ap, arith, drop, sym, w64, to_z, of_z}
-use Rattle.std.proofs.lemmas.Int.{ints, to_z-of_z}
-use Rattle.std.proofs.lemmas.List.{drop_all}
-use Rattle.ep_eval.specs.Helds.{held_value}
-use Rattle.ep_tree.proofs.ViewLemmas.{value_tree-matrix, value_tree-number}
-use Rattle.ep_tree.specs.Values.{matrix, single}
-use Rattle.ep_tree.specs.Views.{value_tree, values_from}
-use Rattle.ep_tree.specs.declared.values.Value.{Value}
+use Rattle.ep_size.proofs.Words.{◌≡◌, ◌++◌, ◌∙◌, List, ap, arith, drop, sym, w64, to_z, of_z, ints, to_z-of_z, drop_all, held_value, value_tree-matrix, value_tree-number, matrix, single, value_tree, values_from, Value, fixed_grid, grid_of}
 use Rattle.ep_size.proofs.PartedSteps.{opened_done}
-use Rattle.ep_size.specs.Extents.{fixed_grid, grid_of}
 use Rattle.ep_size.proofs.parted.+opened_value.Goals as goal
 
 pub returns-in-Number-clause-grid : goal.returns-in-Number-clause-grid

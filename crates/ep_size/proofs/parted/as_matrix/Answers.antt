@@ -1,8 +1,5 @@
-use Rattle.std.proofs.Common.{ap, sym}
-use Rattle.ep_tree.specs.Measures.{number_reach}
-use Rattle.ep_tree.specs.Values.{filled}
+use Rattle.ep_size.proofs.Words.{ap, sym, number_reach, filled, TellsValue, grid_of, plain_span}
 use Rattle.ep_size.proofs.ExtentViews.{grid_of-matrix}
-use Rattle.ep_size.specs.Extents.{TellsValue, grid_of, plain_span}
 use Rattle.ep_size.proofs.parted.as_matrix.Goals as goal
 
 pub returns-in-Matrix-clause-listed : goal.returns-in-Matrix-clause-listed

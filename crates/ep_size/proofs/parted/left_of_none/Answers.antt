@@ -1,8 +1,5 @@
-use Rattle.std.proofs.Common.{◌∷◌, None, Some, subst, sym}
-use Rattle.ep_tree.specs.Reach.{no_extent}
+use Rattle.ep_size.proofs.Words.{◌∷◌, None, Some, subst, sym, no_extent, measured_of, ReadsGrid}
 use Rattle.ep_size.proofs.PartedSteps.{none_read_decided, none_read_stated, none_read_whole}
-use Rattle.ep_size.specs.Indices.{measured_of}
-use Rattle.ep_size.specs.Slices.{ReadsGrid}
 use Rattle.ep_size.proofs.parted.left_of_none.Goals as goal
 
 pub returns-in-Stated : goal.returns-in-Stated

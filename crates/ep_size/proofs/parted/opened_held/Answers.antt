@@ -1,9 +1,5 @@
-use Rattle.std.proofs.Common.{◌≡◌, ◌∙◌, ap, arith, sym, w64, to_z, of_z}
-use Rattle.std.proofs.lemmas.Int.{ints, to_z-of_z}
-use Rattle.ep_eval.specs.Helds.{held_value}
-use Rattle.ep_tree.specs.Values.{single}
+use Rattle.ep_size.proofs.Words.{◌≡◌, ◌∙◌, ap, arith, sym, w64, to_z, of_z, ints, to_z-of_z, held_value, single, fixed_grid, grid_of}
 use Rattle.ep_size.proofs.ListNodes.{if_ok}
-use Rattle.ep_size.specs.Extents.{fixed_grid, grid_of}
 use Rattle.ep_size.proofs.parted.opened_held.Goals as goal
 
 pub returns-in-Number-clause-grid : goal.returns-in-Number-clause-grid

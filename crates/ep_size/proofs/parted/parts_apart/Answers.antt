@@ -1,11 +1,7 @@
-use Rattle.std.proofs.Common.{◌∙◌, ap, map, subst, sym}
-use Rattle.ep_tree.specs.Measures.{number_reach}
+use Rattle.ep_size.proofs.Words.{◌∙◌, ap, map, subst, sym, number_reach, grid_of, measured_of, TellsExtent}
 use Rattle.ep_size.proofs.PartedSteps.{parts_gone, parts_slice}
 use Rattle.ep_size.proofs.ListNodes.{if_ok}
 use Rattle.ep_size.proofs.SliceParts.{slice_untold}
-use Rattle.ep_size.specs.Extents.{grid_of}
-use Rattle.ep_size.specs.Indices.{measured_of}
-use Rattle.ep_size.specs.Lists.{TellsExtent}
 use Rattle.ep_size.proofs.parted.parts_apart.Goals as goal
 
 pub returns-then-not-are_told-clause-listed : goal.returns-then-not-are_told-clause-listed

@@ -1,15 +1,8 @@
-use Rattle.std.proofs.Common.{◌≡◌, ◌+◌, ◌∷◌, ◌++◌, ℕ, List, drop, sym, ap, subst, ◌∙◌, append-nil, append_assoc}
-use Rattle.std.specs.Prelude.{flat_map, map, option_map, option_to_list, OnOk}
-use Rattle.std.proofs.lemmas.List.{drop_all, drop_more}
-use Rattle.ep_eval.proofs.WalkSteps.{no_runs}
+use Rattle.ep_size.proofs.Words.{◌≡◌, ◌+◌, ◌∷◌, ◌++◌, ℕ, List, drop, sym, ap, subst, ◌∙◌, append-nil, append_assoc, flat_map, map, option_map, option_to_list, OnOk, drop_all, drop_more, no_runs, parts_left, matrix, scalars_of, grid_of, grids_from, plain_span, measured_of}
 use Rattle.ep_tree.specs.Reach as defined
-use Rattle.ep_tree.specs.Reach.{parts_left}
-use Rattle.ep_tree.specs.Values.{matrix, scalars_of}
 use Rattle.ep_size.proofs.ExtentViews.{grid_of-matrix}
 use Rattle.ep_size.proofs.KnownParts.{known_kept, known_none, known_part, left_known, no_part_left, no_parts_leave_none, nothing_added, nothing_leaves_none, number_leaves_none, one_left}
 use Rattle.ep_size.proofs.RemainingSteps.{whole_left}
-use Rattle.ep_size.specs.Extents.{grid_of, grids_from, plain_span}
-use Rattle.ep_size.specs.Indices.{measured_of}
 use Rattle.ep_size.specs.declared.extents.Extent.{Extent}
 use Rattle.ep_size.proofs.picked.+add_known.Goals as goal
 

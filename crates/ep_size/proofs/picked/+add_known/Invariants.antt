@@ -1,8 +1,5 @@
-use Rattle.std.proofs.Common.{◌≡◌, ◌++◌, drop, length}
-use Rattle.std.specs.Prelude.{map}
+use Rattle.ep_size.proofs.Words.{◌≡◌, ◌++◌, drop, length, map, plain_span, measured_of}
 use Rattle.ep_size.proofs.KnownParts.{left_known}
-use Rattle.ep_size.specs.Extents.{plain_span}
-use Rattle.ep_size.specs.Indices.{measured_of}
 use Rattle.ep_size.proofs.picked.+add_known.Given as goal
 
 abbrev pub decreases-add_known : goal.decreases-add_known

@@ -1,9 +1,6 @@
-use Rattle.std.proofs.Common.{◌≡◌, ◌∙◌, ◌++◌, ℕ, ap, sym, append-nil, arith}
-use Rattle.std.specs.Prelude.{map, replicate}
+use Rattle.ep_size.proofs.Words.{◌≡◌, ◌∙◌, ◌++◌, ℕ, ap, sym, append-nil, arith, map, replicate, plain_span, cells_left, measured_of}
 use Rattle.ep_size.proofs.ReadSteps.{filled_left}
 use Rattle.ep_size.proofs.ScalarParts.{copies_more}
-use Rattle.ep_size.specs.Extents.{plain_span}
-use Rattle.ep_size.specs.Indices.{cells_left, measured_of}
 use Rattle.ep_size.proofs.picked.add_cells_left.Goals as goal
 
 pub loop-cell-init : goal.loop-cell-init

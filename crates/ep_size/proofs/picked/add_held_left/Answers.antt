@@ -1,12 +1,5 @@
-use Rattle.std.proofs.Common.{◌≡◌, ◌++◌, ◌∙◌, ℤ, Some, ap, rules, subst, sym, of_z, to_z, w64}
-use Rattle.std.specs.Prelude.{flat_map, map, OnOk}
-use Rattle.std.proofs.lemmas.Int.{to_z-of_z}
-use Rattle.ep_tree.specs.Reach.{fixed_span, parts_left}
-use Rattle.ep_tree.specs.Values.{scalars_of}
-use Rattle.ep_eval.specs.Helds.{held_value}
+use Rattle.ep_size.proofs.Words.{◌≡◌, ◌++◌, ◌∙◌, ℤ, Some, ap, rules, subst, sym, of_z, to_z, w64, flat_map, map, OnOk, to_z-of_z, fixed_span, parts_left, scalars_of, held_value, fixed_grid, plain_span, measured_of}
 use Rattle.ep_size.proofs.RemainingSteps.{number_grid}
-use Rattle.ep_size.specs.Extents.{fixed_grid, plain_span}
-use Rattle.ep_size.specs.Indices.{measured_of}
 use Rattle.ep_size.proofs.picked.add_held_left.Goals as goal
 
 pub returns-in-Number-clause-added : goal.returns-in-Number-clause-added

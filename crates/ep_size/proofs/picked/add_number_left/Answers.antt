@@ -1,10 +1,7 @@
-use Rattle.std.proofs.Common.{sym, ap, ◌++◌, ◌∙◌}
-use Rattle.std.specs.Prelude.{map}
-use Rattle.ep_eval.proofs.WalkSteps.{no_runs}
+use Rattle.ep_size.proofs.Words.{sym, ap, ◌++◌, ◌∙◌, map, no_runs, plain_span}
 use Rattle.ep_size.proofs.KnownParts.{nothing_added}
 use Rattle.ep_size.proofs.ReadSteps.{number_gone, number_whole}
 use Rattle.ep_size.proofs.ScalarParts.{span_pushed}
-use Rattle.ep_size.specs.Extents.{plain_span}
 use Rattle.ep_size.proofs.picked.add_number_left.Goals as goal
 
 pub returns-in-Some-clause-added : goal.returns-in-Some-clause-added

@@ -1,10 +1,4 @@
-use Rattle.std.proofs.Common.{subst, ap, ◌∙◌, map, ◌++◌}
-use Rattle.std.specs.Prelude.{flat_map}
-use Rattle.ep_tree.specs.Reach.{parts_left}
-use Rattle.ep_tree.specs.Values.{scalars_of}
-use Rattle.ep_size.specs.Extents.{grid_of, plain_span}
-use Rattle.ep_size.specs.Hulls.{Hulls}
-use Rattle.ep_size.specs.Indices.{measured_of}
+use Rattle.ep_size.proofs.Words.{subst, ap, ◌∙◌, map, ◌++◌, flat_map, parts_left, scalars_of, grid_of, plain_span, Hulls, measured_of}
 use Rattle.ep_size.proofs.picked.known_left.Goals as goal
 
 pub returns-clause-left : goal.returns-clause-left

@@ -1,12 +1,5 @@
-use Rattle.std.proofs.Common.{◌≡◌, ◌∷◌, rules, ap, sym, ◌∙◌, w64, to_z, of_z}
-use Rattle.std.specs.Prelude.{flat_map, option_to_list}
-use Rattle.std.proofs.lemmas.Int.{to_z-of_z}
-use Rattle.ep_tree.specs.Reach.{parts_left}
-use Rattle.ep_tree.specs.Values.{matrix, part_at}
+use Rattle.ep_size.proofs.Words.{◌≡◌, ◌∷◌, rules, ap, sym, ◌∙◌, w64, to_z, of_z, flat_map, option_to_list, to_z-of_z, parts_left, matrix, part_at, grids_from, measured_of, Stated}
 use Rattle.ep_size.proofs.KnownParts.{known_stated, known_undefined}
-use Rattle.ep_size.specs.Extents.{grids_from}
-use Rattle.ep_size.specs.Indices.{measured_of}
-use Rattle.ep_size.specs.declared.reading.Indexed.TheVariants.{Stated}
 use Rattle.ep_size.proofs.picked.part_stated.Goals as goal
 
 pub returns-in-Some : goal.returns-in-Some

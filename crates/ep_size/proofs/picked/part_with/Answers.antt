@@ -1,11 +1,5 @@
-use Rattle.std.proofs.Common.{◌≡◌, ◌∷◌, ◌+◌, ℕ, ℤ, pos, List, drop, get_or, rules, ap, sym, ◌∙◌, arith, w64, to_z, of_z}
-use Rattle.std.proofs.lemmas.Int.{ints, to_z-of_z}
-use Rattle.std.proofs.lemmas.List.{drop_all, drop_more}
-use Rattle.ep_base.specs.Numbers.{compare_holds}
-use Rattle.ep_base.specs.declared.operators.CompareOp.{CompareOp}
-use Rattle.ep_tree.specs.Values.{part_at}
+use Rattle.ep_size.proofs.Words.{◌≡◌, ◌∷◌, ◌+◌, ℕ, ℤ, pos, List, drop, get_or, rules, ap, sym, ◌∙◌, arith, w64, to_z, of_z, ints, to_z-of_z, drop_all, drop_more, compare_holds, CompareOp, part_at, grids_from}
 use Rattle.ep_size.proofs.KnownParts.{known_next, known_short, known_unlisted}
-use Rattle.ep_size.specs.Extents.{grids_from}
 use Rattle.ep_size.specs.declared.extents.Extent.{Extent}
 use Rattle.ep_size.specs.declared.extents.Extent.TheVariants.{Nothing}
 use Rattle.ep_size.proofs.picked.part_with.Goals as goal

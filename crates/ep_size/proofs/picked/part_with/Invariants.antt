@@ -1,6 +1,4 @@
-use Rattle.std.proofs.Common.{◌≡◌, drop}
-use Rattle.ep_tree.specs.Values.{part_at}
-use Rattle.ep_size.specs.Extents.{grids_from}
+use Rattle.ep_size.proofs.Words.{◌≡◌, drop, part_at, grids_from}
 use Rattle.ep_size.proofs.picked.part_with.Given as goal
 
 abbrev pub invariant-loop-place : goal.invariant-loop-place

@@ -1,11 +1,5 @@
-use Rattle.std.proofs.Common.{◌≡◌, Some, None, ap, sym, subst, ◌∙◌, w64, rules, to_z, of_z}
-use Rattle.std.proofs.lemmas.Int.{to_z-of_z}
-use Rattle.ep_base.specs.Intervals.{power_interval}
-use Rattle.ep_tree.specs.Reach.{wide_span}
+use Rattle.ep_size.proofs.Words.{◌≡◌, Some, None, ap, sym, subst, ◌∙◌, w64, rules, to_z, of_z, to_z-of_z, power_interval, wide_span, Gives, interval_of, Stated}
 use Rattle.ep_size.proofs.PowerParts.{gives_undefined, no_power, stated_is}
-use Rattle.ep_size.specs.Finishing.{Gives}
-use Rattle.ep_numbers.specs.Spans.{interval_of}
-use Rattle.ep_size.specs.declared.reading.Indexed.TheVariants.{Stated}
 use Rattle.ep_size.proofs.powers.power.Goals as goal
 
 pub returns-in-Some : goal.returns-in-Some

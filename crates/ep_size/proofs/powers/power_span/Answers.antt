@@ -1,5 +1,4 @@
-use Rattle.ep_base.specs.Intervals.{nth_power_interval}
-use Rattle.ep_numbers.specs.Spans.{interval_of}
+use Rattle.ep_size.proofs.Words.{nth_power_interval, interval_of}
 use Rattle.ep_size.proofs.PowerParts.{gives_told, gives_untold}
 use Rattle.ep_size.proofs.powers.power_span.Goals as goal
 

@@ -1,8 +1,5 @@
-use Rattle.std.proofs.Common.{ap, sym, ◌∙◌, pos, Some, w64, rules, arith}
-use Rattle.std.specs.Prelude.{int_lt}
-use Rattle.std.proofs.lemmas.Int.{ints, to_z-of_z}
+use Rattle.ep_size.proofs.Words.{ap, sym, ◌∙◌, pos, Some, w64, rules, arith, int_lt, ints, to_z-of_z, interval_of}
 use Rattle.ep_size.proofs.PowerParts.{gives_undefined, negative_power, positive_power}
-use Rattle.ep_numbers.specs.Spans.{interval_of}
 use Rattle.ep_size.proofs.powers.stated_power.Goals as goal
 
 pub returns-then-exponent-lt0 : goal.returns-then-exponent-lt0

@@ -1,4 +1,4 @@
-use Rattle.ep_eval.proofs.WalkSteps.{no_runs}
+use Rattle.ep_size.proofs.Words.{no_runs}
 use Rattle.ep_size.proofs.ReadSteps.{left_more, left_nothing, left_whole}
 use Rattle.ep_size.proofs.reading.+cells_left.Goals as goal
 

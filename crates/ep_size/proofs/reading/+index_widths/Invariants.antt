@@ -1,4 +1,4 @@
-use Rattle.std.proofs.Common.{length}
+use Rattle.ep_size.proofs.Words.{length}
 use Rattle.ep_size.proofs.reading.+index_widths.Given as goal
 
 abbrev pub decreases-index_widths : goal.decreases-index_widths

@@ -1,7 +1,5 @@
-use Rattle.std.specs.Prelude.{◌↔◌, Contains, IsTrue}
-use Rattle.std.proofs.Common.{subst, ap, sym, ◌∙◌, arith, w64}
-use Rattle.std.proofs.lemmas.Int.{ints, to_z-of_z}
-use Rattle.std.specs.Prelude.{if◌then◌else◌}
+use Rattle.ep_size.proofs.Words.{◌↔◌, IsTrue, subst, ap, sym, ◌∙◌, arith, w64, ints, to_z-of_z, if◌then◌else◌}
+use Rattle.std.specs.Prelude.{Contains}
 use Rattle.ep_size.proofs.ReadSteps.{decided_kept, every_kept, stated_kept, unstated_kept}
 use Rattle.ep_size.proofs.reading.kept_parts.Goals as goal
 

@@ -1,5 +1,4 @@
-use Rattle.std.proofs.Common.{sym, ◌∙◌}
-use Rattle.ep_tree.specs.Views.{kind_tree}
+use Rattle.ep_size.proofs.Words.{sym, ◌∙◌, kind_tree}
 use Rattle.ep_size.proofs.ReadSteps.{name_cells, no_name}
 use Rattle.ep_size.proofs.reading.names_cells.Goals as goal
 

@@ -1,10 +1,5 @@
-use Rattle.std.proofs.Common.{◌≡◌, ℤ, ap, ◌∙◌, map, w64, to_z, of_z, rules, Some}
-use Rattle.std.proofs.lemmas.Int.{to_z-of_z}
-use Rattle.ep_tree.specs.Reach.{fixed_span}
-use Rattle.ep_tree.specs.Views.{value_tree}
-use Rattle.ep_eval.specs.Helds.{held_value}
+use Rattle.ep_size.proofs.Words.{◌≡◌, ℤ, ap, ◌∙◌, map, w64, to_z, of_z, rules, Some, to_z-of_z, fixed_span, value_tree, held_value, measured_of}
 use Rattle.ep_size.proofs.RemainingSteps.{gives_held, number_held}
-use Rattle.ep_size.specs.Indices.{measured_of}
 use Rattle.ep_size.proofs.reads.held_left.Goals as goal
 
 pub returns-in-Number-clause-left : goal.returns-in-Number-clause-left

@@ -1,8 +1,6 @@
-use Rattle.std.proofs.Common.{refl, map}
+use Rattle.ep_size.proofs.Words.{refl, map, grid_of, measured_of}
 use Rattle.ep_size.proofs.RemainingSteps.{gives_fixed}
 use Rattle.ep_size.proofs.ReadSteps.{cells_left_of, no_parts_left_of, nothing_left_of, number_left_of}
-use Rattle.ep_size.specs.Extents.{grid_of}
-use Rattle.ep_size.specs.Indices.{measured_of}
 use Rattle.ep_size.proofs.reads.left_of.Goals as goal
 
 pub returns-in-Number-clause-left : goal.returns-in-Number-clause-left

@@ -1,8 +1,5 @@
-use Rattle.std.proofs.Common.{subst, refl}
-use Rattle.ep_eval.proofs.WalkSteps.{no_runs}
+use Rattle.ep_size.proofs.Words.{subst, refl, no_runs, plain_span, Hulls}
 use Rattle.ep_size.proofs.ReadSteps.{number_gone, number_whole}
-use Rattle.ep_size.specs.Extents.{plain_span}
-use Rattle.ep_size.specs.Hulls.{Hulls}
 use Rattle.ep_size.proofs.reads.number_left.Goals as goal
 
 pub returns-in-Some : goal.returns-in-Some

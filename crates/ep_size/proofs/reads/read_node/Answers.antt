@@ -1,11 +1,4 @@
-use Rattle.std.proofs.Common.{◌≡◌, subst, sym, ◌∙◌, map}
-use Rattle.std.specs.Prelude.{flat_map, IfOk, IfSome}
-use Rattle.ep_tree.specs.Reach.{parts_left}
-use Rattle.ep_tree.specs.Types.{of_scalar}
-use Rattle.ep_tree.specs.Values.{scalars_of}
-use Rattle.ep_size.specs.Extents.{grid_of}
-use Rattle.ep_size.specs.Hulls.{Hulls}
-use Rattle.ep_size.specs.Indices.{measured_of}
+use Rattle.ep_size.proofs.Words.{◌≡◌, subst, sym, ◌∙◌, map, flat_map, IfOk, IfSome, parts_left, of_scalar, scalars_of, grid_of, Hulls, measured_of}
 use Rattle.ep_size.proofs.reads.read_node.Goals as goal
 
 pub returns-in-Ok : goal.returns-in-Ok

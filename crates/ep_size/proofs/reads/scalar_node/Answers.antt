@@ -1,14 +1,6 @@
-use Rattle.std.proofs.Common.{ap, subst, ◌∙◌, map}
-use Rattle.ep_tree.specs.Measures.{read_weight}
-use Rattle.ep_tree.specs.Reach.{extent, read_span}
-use Rattle.ep_tree.specs.Trees.{read}
+use Rattle.ep_size.proofs.Words.{ap, subst, ◌∙◌, map, read_weight, extent, read_span, read, not, ◌&&◌, is_decision_name, Gives, measured_of, capped}
 use Rattle.ep_size.proofs.NodeSteps.{number_refused}
 use Rattle.ep_size.proofs.ReadForms.{left_of, read_number}
-use Rattle.std.specs.Prelude.{not, ◌&&◌}
-use Rattle.ep_tree.specs.Reach.{is_decision_name}
-use Rattle.ep_size.specs.Finishing.{Gives}
-use Rattle.ep_size.specs.Indices.{measured_of}
-use Rattle.ep_size.specs.Totals.{capped}
 use Rattle.ep_size.proofs.reads.scalar_node.Goals as goal
 
 pub returns-in-Ok : goal.returns-in-Ok

@@ -1,8 +1,5 @@
-use Rattle.std.proofs.Common.{subst, sym, map}
+use Rattle.ep_size.proofs.Words.{subst, sym, map, plain_span, Hulls, cells_left, measured_of}
 use Rattle.ep_size.proofs.ReadSteps.{filled_left}
-use Rattle.ep_size.specs.Extents.{plain_span}
-use Rattle.ep_size.specs.Hulls.{Hulls}
-use Rattle.ep_size.specs.Indices.{cells_left, measured_of}
 use Rattle.ep_size.proofs.reads.some_cells.Goals as goal
 
 pub returns : goal.returns

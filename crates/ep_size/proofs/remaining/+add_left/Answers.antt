@@ -1,16 +1,6 @@
-use Rattle.std.proofs.Common.{◌≡◌, ◌+◌, ◌∷◌, ◌++◌, ℕ, List, drop, sym, ap, subst, ◌∙◌, append-nil, append_assoc}
-use Rattle.std.specs.Prelude.{flat_map, map, OnOk}
-use Rattle.std.proofs.lemmas.List.{drop_all, drop_more}
-use Rattle.ep_eval.proofs.WalkSteps.{no_runs}
-use Rattle.ep_tree.proofs.ViewLemmas.{value_tree-matrix, value_tree-number}
+use Rattle.ep_size.proofs.Words.{◌≡◌, ◌+◌, ◌∷◌, ◌++◌, ℕ, List, drop, sym, ap, subst, ◌∙◌, append-nil, append_assoc, flat_map, map, OnOk, drop_all, drop_more, no_runs, value_tree-matrix, value_tree-number, parts_left, scalars_of, value_tree, Value, fixed_grid, plain_span, measured_of}
 use Rattle.ep_tree.specs.Reach as defined
-use Rattle.ep_tree.specs.Reach.{parts_left}
-use Rattle.ep_tree.specs.Values.{scalars_of}
-use Rattle.ep_tree.specs.Views.{value_tree}
-use Rattle.ep_tree.specs.declared.values.Value.{Value}
 use Rattle.ep_size.proofs.RemainingSteps.{left_none, left_part, left_parts, matrix_kept, number_kept, whole_left}
-use Rattle.ep_size.specs.Extents.{fixed_grid, plain_span}
-use Rattle.ep_size.specs.Indices.{measured_of}
 use Rattle.ep_size.proofs.remaining.+add_left.Goals as goal
 
 pub loop-part-preserved : goal.loop-part-preserved

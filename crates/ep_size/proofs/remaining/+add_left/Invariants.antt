@@ -1,8 +1,5 @@
-use Rattle.std.proofs.Common.{◌≡◌, ◌++◌, drop, length}
-use Rattle.std.specs.Prelude.{map}
+use Rattle.ep_size.proofs.Words.{◌≡◌, ◌++◌, drop, length, map, plain_span, measured_of}
 use Rattle.ep_size.proofs.RemainingSteps.{left_parts}
-use Rattle.ep_size.specs.Extents.{plain_span}
-use Rattle.ep_size.specs.Indices.{measured_of}
 use Rattle.ep_size.proofs.remaining.+add_left.Given as goal
 
 abbrev pub decreases-add_left : goal.decreases-add_left

@@ -1,6 +1,4 @@
-use Rattle.std.proofs.Common.{subst, map, take}
-use Rattle.ep_size.specs.Extents.{plain_span}
-use Rattle.ep_size.specs.Hulls.{Hulls}
+use Rattle.ep_size.proofs.Words.{subst, map, take, plain_span, Hulls}
 use Rattle.ep_size.proofs.ListSteps.{fed, fed_all}
 use Rattle.ep_size.proofs.remaining.hull_over.Goals as goal
 

@@ -1,6 +1,4 @@
-use Rattle.std.proofs.Common.{take, map}
-use Rattle.ep_size.specs.Extents.{plain_span}
-use Rattle.ep_size.specs.Hulls.{Hulls}
+use Rattle.ep_size.proofs.Words.{take, map, plain_span, Hulls}
 use Rattle.ep_size.proofs.remaining.hull_over.Given as goal
 
 abbrev pub invariant-loop-span : goal.invariant-loop-span

@@ -1,13 +1,5 @@
-use Rattle.std.proofs.Common.{◌≡◌, ◌∷◌, rules, ap, sym, ◌∙◌, w64, to_z, of_z}
-use Rattle.std.specs.Prelude.{flat_map, option_map, option_to_list}
-use Rattle.std.proofs.lemmas.Int.{to_z-of_z}
-use Rattle.ep_tree.specs.Reach.{parts_left}
-use Rattle.ep_tree.specs.Views.{value_tree}
-use Rattle.ep_eval.specs.Reading.{part_under}
+use Rattle.ep_size.proofs.Words.{◌≡◌, ◌∷◌, rules, ap, sym, ◌∙◌, w64, to_z, of_z, flat_map, option_map, option_to_list, to_z-of_z, parts_left, value_tree, part_under, fixed_grid, measured_of, Stated}
 use Rattle.ep_size.proofs.RemainingSteps.{left_stated, left_undefined, mapped_twice}
-use Rattle.ep_size.specs.Extents.{fixed_grid}
-use Rattle.ep_size.specs.Indices.{measured_of}
-use Rattle.ep_size.specs.declared.reading.Indexed.TheVariants.{Stated}
 use Rattle.ep_size.proofs.remaining.part_left.Goals as goal
 
 pub returns-in-Some : goal.returns-in-Some

@@ -1,11 +1,4 @@
-use Rattle.std.proofs.Common.{subst, ap, ◌∙◌, map, ◌++◌}
-use Rattle.std.specs.Prelude.{flat_map}
-use Rattle.ep_tree.specs.Reach.{parts_left}
-use Rattle.ep_tree.specs.Values.{scalars_of}
-use Rattle.ep_tree.specs.Views.{value_tree}
-use Rattle.ep_size.specs.Extents.{fixed_grid, plain_span}
-use Rattle.ep_size.specs.Hulls.{Hulls}
-use Rattle.ep_size.specs.Indices.{measured_of}
+use Rattle.ep_size.proofs.Words.{subst, ap, ◌∙◌, map, ◌++◌, flat_map, parts_left, scalars_of, value_tree, fixed_grid, plain_span, Hulls, measured_of}
 use Rattle.ep_size.proofs.remaining.value_left.Goals as goal
 
 pub returns-clause-left : goal.returns-clause-left

@@ -1,6 +1,5 @@
-use Rattle.ep_eval.proofs.WalkSteps.{no_runs}
+use Rattle.ep_size.proofs.Words.{no_runs, plain_span}
 use Rattle.ep_size.proofs.MatrixSteps.{cells_none, cells_some}
-use Rattle.ep_size.specs.Extents.{plain_span}
 use Rattle.ep_size.proofs.row_counts.cell_rows.Goals as goal
 
 pub returns-in-Some : goal.returns-in-Some

@@ -1,11 +1,5 @@
-use Rattle.std.proofs.Common.{ap, subst, sym, ◌≡◌, length}
-use Rattle.std.specs.Prelude.{Some}
-use Rattle.ep_tree.specs.Reach.{fixed_span}
-use Rattle.ep_tree.specs.Values.{map_grid, rows_of}
-use Rattle.ep_eval.specs.Helds.{held_value}
+use Rattle.ep_size.proofs.Words.{ap, subst, sym, ◌≡◌, length, Some, fixed_span, map_grid, rows_of, held_value, fixed_grid, capped}
 use Rattle.ep_size.proofs.MatrixSteps.{known_none}
-use Rattle.ep_size.specs.Extents.{fixed_grid}
-use Rattle.ep_size.specs.Totals.{capped}
 use Rattle.ep_size.proofs.row_counts.held_rows.Goals as goal
 
 pub returns-in-Number : goal.returns-in-Number

@@ -1,11 +1,6 @@
-use Rattle.std.proofs.Common.{ap, sym, ◌∙◌, length}
-use Rattle.ep_tree.specs.Reach.{fixed_span}
-use Rattle.ep_tree.specs.Values.{listed_values, rows_of}
-use Rattle.std.specs.Prelude.{None}
+use Rattle.ep_size.proofs.Words.{ap, sym, ◌∙◌, length, fixed_span, listed_values, rows_of, None, grid_of, plain_span, capped}
 use Rattle.ep_size.proofs.ExtentViews.{grid_of-matrix}
 use Rattle.ep_size.proofs.MatrixSteps.{known_none, parts_len, parts_rows}
-use Rattle.ep_size.specs.Extents.{grid_of, plain_span}
-use Rattle.ep_size.specs.Totals.{capped}
 use Rattle.ep_size.proofs.row_counts.row_count.Goals as goal
 
 pub returns-in-Number : goal.returns-in-Number

@@ -1,6 +1,5 @@
-use Rattle.std.proofs.Common.{ap, ◌∙◌}
+use Rattle.ep_size.proofs.Words.{ap, ◌∙◌, capped}
 use Rattle.ep_size.proofs.MatrixSteps.{number_rows, value_matrix_rows, values_len}
-use Rattle.ep_size.specs.Totals.{capped}
 use Rattle.ep_size.proofs.row_counts.value_rows.Goals as goal
 
 pub returns-in-Number : goal.returns-in-Number

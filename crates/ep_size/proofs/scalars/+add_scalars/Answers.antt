@@ -1,12 +1,7 @@
-use Rattle.std.proofs.Common.{◌≡◌, ◌+◌, ◌∷◌, ◌++◌, [], ℕ, List, drop, sym, ap, subst, ◌∙◌, append-nil, append_assoc, None}
-use Rattle.std.specs.Prelude.{map, OnOk}
-use Rattle.std.proofs.lemmas.List.{drop_all, drop_more}
+use Rattle.ep_size.proofs.Words.{◌≡◌, ◌+◌, ◌∷◌, ◌++◌, [], ℕ, List, drop, sym, ap, subst, ◌∙◌, append-nil, append_assoc, None, map, OnOk, drop_all, drop_more, fixed_span, scalars_of, scalars_of_all, grid_of, grids_from, plain_span}
 use Rattle.ep_tree.specs.Reach as defined
-use Rattle.ep_tree.specs.Reach.{fixed_span}
-use Rattle.ep_tree.specs.Values.{scalars_of, scalars_of_all}
 use Rattle.ep_size.proofs.ExtentViews.{grid_of-matrix, scalars_matrix, scalars_none, scalars_part, scalars_single}
 use Rattle.ep_size.proofs.ScalarParts.{span_pushed}
-use Rattle.ep_size.specs.Extents.{grid_of, grids_from, plain_span}
 use Rattle.ep_size.specs.declared.extents.Extent.{Extent}
 use Rattle.ep_size.proofs.scalars.+add_scalars.Goals as goal
 

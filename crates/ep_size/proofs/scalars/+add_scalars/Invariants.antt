@@ -1,7 +1,4 @@
-use Rattle.std.proofs.Common.{◌≡◌, ◌++◌, drop}
-use Rattle.std.specs.Prelude.{map}
-use Rattle.ep_tree.specs.Values.{scalars_of_all}
-use Rattle.ep_size.specs.Extents.{grids_from, plain_span}
+use Rattle.ep_size.proofs.Words.{◌≡◌, ◌++◌, drop, map, scalars_of_all, grids_from, plain_span}
 use Rattle.ep_size.proofs.scalars.+add_scalars.Given as goal
 
 abbrev pub invariant-loop-part : goal.invariant-loop-part

@@ -1,15 +1,6 @@
-use Rattle.std.proofs.Common.{◌≡◌, ◌+◌, ◌∷◌, ◌++◌, [], ℕ, ℤ, List, drop, sym, ap, ◌∙◌, w64, to_z, of_z, rules, append-nil, append_assoc, Some}
-use Rattle.std.specs.Prelude.{map}
-use Rattle.std.proofs.lemmas.Int.{to_z-of_z}
-use Rattle.std.proofs.lemmas.List.{drop_all, drop_more}
-use Rattle.ep_tree.proofs.ViewLemmas.{value_tree-matrix, value_tree-number}
+use Rattle.ep_size.proofs.Words.{◌≡◌, ◌+◌, ◌∷◌, ◌++◌, [], ℕ, ℤ, List, drop, sym, ap, ◌∙◌, w64, to_z, of_z, rules, append-nil, append_assoc, Some, map, to_z-of_z, drop_all, drop_more, value_tree-matrix, value_tree-number, fixed_span, scalars_of, value_tree, Value, fixed_grid, plain_span}
 use Rattle.ep_tree.specs.Reach as defined
-use Rattle.ep_tree.specs.Reach.{fixed_span}
-use Rattle.ep_tree.specs.Values.{scalars_of}
-use Rattle.ep_tree.specs.Views.{value_tree}
-use Rattle.ep_tree.specs.declared.values.Value.{Value}
 use Rattle.ep_size.proofs.ScalarParts.{fixed_matrix, fixed_none, fixed_part, fixed_parts, fixed_single, span_pushed}
-use Rattle.ep_size.specs.Extents.{fixed_grid, plain_span}
 use Rattle.ep_size.proofs.scalars.+add_value.Goals as goal
 
 pub loop-part-preserved : goal.loop-part-preserved

@@ -1,7 +1,5 @@
-use Rattle.std.proofs.Common.{◌≡◌, ◌++◌, drop}
-use Rattle.std.specs.Prelude.{map}
+use Rattle.ep_size.proofs.Words.{◌≡◌, ◌++◌, drop, map, plain_span}
 use Rattle.ep_size.proofs.ScalarParts.{fixed_parts}
-use Rattle.ep_size.specs.Extents.{plain_span}
 use Rattle.ep_size.proofs.scalars.+add_value.Given as goal
 
 abbrev pub invariant-loop-part : goal.invariant-loop-part

@@ -1,7 +1,5 @@
-use Rattle.std.proofs.Common.{sym, append-nil, arith}
-use Rattle.std.specs.Prelude.{map}
+use Rattle.ep_size.proofs.Words.{sym, append-nil, arith, map, plain_span}
 use Rattle.ep_size.proofs.ScalarParts.{copies_all, copies_more}
-use Rattle.ep_size.specs.Extents.{plain_span}
 use Rattle.ep_size.proofs.scalars.add_cells.Goals as goal
 
 pub loop-cell-init : goal.loop-cell-init

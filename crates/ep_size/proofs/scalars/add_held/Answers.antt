@@ -1,11 +1,5 @@
-use Rattle.std.proofs.Common.{◌≡◌, ◌∷◌, ◌++◌, [], ℤ, sym, ap, subst, ◌∙◌, w64, to_z, of_z, rules, Some}
-use Rattle.std.specs.Prelude.{map, OnOk}
-use Rattle.std.proofs.lemmas.Int.{to_z-of_z}
-use Rattle.ep_tree.specs.Reach.{fixed_span}
-use Rattle.ep_tree.specs.Values.{scalars_of}
-use Rattle.ep_eval.specs.Helds.{held_value}
+use Rattle.ep_size.proofs.Words.{◌≡◌, ◌∷◌, ◌++◌, [], ℤ, sym, ap, subst, ◌∙◌, w64, to_z, of_z, rules, Some, map, OnOk, to_z-of_z, fixed_span, scalars_of, held_value, fixed_grid, plain_span}
 use Rattle.ep_size.proofs.ScalarParts.{fixed_single, span_pushed}
-use Rattle.ep_size.specs.Extents.{fixed_grid, plain_span}
 use Rattle.ep_size.proofs.scalars.add_held.Goals as goal
 
 pub returns-in_ok-push-in-Number-clause-added : goal.returns-in_ok-push-in-Number-clause-added

@@ -1,4 +1,4 @@
-use Rattle.std.proofs.Common.{length}
+use Rattle.ep_size.proofs.Words.{length}
 use Rattle.ep_size.proofs.slices.+are_told.Given as goal
 
 abbrev pub decreases-are_told : goal.decreases-are_told

@@ -1,6 +1,5 @@
-use Rattle.std.proofs.Common.{map}
+use Rattle.ep_size.proofs.Words.{map, measured_of}
 use Rattle.ep_size.proofs.SliceSteps.{cut_leaves, kept_some}
-use Rattle.ep_size.specs.Indices.{measured_of}
 use Rattle.ep_size.proofs.slices.+domains_left.Goals as goal
 
 pub returns-in-Some-split_first : goal.returns-in-Some-split_first

@@ -1,4 +1,4 @@
-use Rattle.std.proofs.Common.{length}
+use Rattle.ep_size.proofs.Words.{length}
 use Rattle.ep_size.proofs.slices.+domains_left.Given as goal
 
 abbrev pub decreases-domains_left : goal.decreases-domains_left

@@ -1,8 +1,5 @@
-use Rattle.std.proofs.Common.{◌∷◌, map, subst, sym}
-use Rattle.ep_eval.proofs.WalkSteps.{no_runs}
+use Rattle.ep_size.proofs.Words.{◌∷◌, map, subst, sym, no_runs, measured_of, LeavesDomains}
 use Rattle.ep_size.proofs.SliceSteps.{cut_leaves, every_leaves, nothing_leaves}
-use Rattle.ep_size.specs.Indices.{measured_of}
-use Rattle.ep_size.specs.Slices.{LeavesDomains}
 use Rattle.ep_size.proofs.slices.+keeps_each.Goals as goal
 
 pub returns-in-Every : goal.returns-in-Every

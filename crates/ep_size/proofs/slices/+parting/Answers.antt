@@ -1,11 +1,6 @@
-use Rattle.std.proofs.Common.{ap, arith, length, refl, subst, sym, w64, ◌∙◌, ◌∷◌, ◌++◌, [], ◌≡◌, to_z, of_z}
-use Rattle.std.proofs.lemmas.Int.{ints, to_z-of_z}
-use Rattle.ep_eval.specs.Walking.{IsWalkBehind, before_rest, numbers_left}
+use Rattle.ep_size.proofs.Words.{ap, arith, length, refl, subst, sym, w64, ◌∙◌, ◌∷◌, ◌++◌, [], ◌≡◌, to_z, of_z, ints, to_z-of_z, IsWalkBehind, before_rest, numbers_left, grid_of, measured_of, map}
 use Rattle.ep_size.proofs.ListNodes.{if_ok}
 use Rattle.ep_size.proofs.SliceParts.{each_all, each_begins, each_more, each_none, every_reads, kept_part, none_reads, one_reads}
-use Rattle.ep_size.specs.Extents.{grid_of}
-use Rattle.ep_size.specs.Indices.{measured_of}
-use Rattle.std.specs.Prelude.{map}
 use Rattle.ep_size.proofs.slices.+parting.Goals as goal
 
 pub cells_part-returns-then-keeps_each-clause-read : goal.cells_part-returns-then-keeps_each-clause-read

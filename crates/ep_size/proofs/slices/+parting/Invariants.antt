@@ -1,5 +1,4 @@
-use Rattle.std.proofs.Common.{◌+◌, ◌*◌, length}
-use Rattle.ep_eval.specs.Walking.{IsWalk, numbers_left}
+use Rattle.ep_size.proofs.Words.{◌+◌, ◌*◌, length, IsWalk, numbers_left}
 use Rattle.ep_size.proofs.SliceParts.{EachSoFar}
 use Rattle.ep_size.proofs.slices.+parting.Given as goal
 

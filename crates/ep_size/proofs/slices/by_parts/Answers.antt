@@ -1,5 +1,4 @@
-use Rattle.std.proofs.Common.{ap}
-use Rattle.ep_tree.specs.Measures.{number_reach}
+use Rattle.ep_size.proofs.Words.{ap, number_reach}
 use Rattle.ep_size.proofs.ExtentViews.{grid_of-matrix}
 use Rattle.ep_size.proofs.slices.by_parts.Goals as goal
 

@@ -1,12 +1,6 @@
-use Rattle.std.proofs.Common.{ap, map, subst, sym, ◌∙◌}
-use Rattle.ep_tree.specs.Measures.{number_reach}
-use Rattle.ep_tree.specs.Reach.{slice_extent}
-use Rattle.ep_tree.specs.Values.{filled}
+use Rattle.ep_size.proofs.Words.{ap, map, subst, sym, ◌∙◌, number_reach, slice_extent, filled, plain_span, measured_of, TellsExtent}
 use Rattle.ep_size.proofs.ListNodes.{if_ok}
 use Rattle.ep_size.proofs.SliceParts.{slice_none, slice_read, slice_untold}
-use Rattle.ep_size.specs.Extents.{plain_span}
-use Rattle.ep_size.specs.Indices.{measured_of}
-use Rattle.ep_size.specs.Lists.{TellsExtent}
 use Rattle.ep_size.proofs.slices.cells_apart.Goals as goal
 
 pub returns-then-not-are_told-clause-listed : goal.returns-then-not-are_told-clause-listed

@@ -1,9 +1,6 @@
-use Rattle.std.proofs.Common.{subst, sym, arith, w64}
-use Rattle.std.proofs.lemmas.Int.{ints, to_z-of_z}
-use Rattle.std.specs.Prelude.{◌∷◌, ◌↔◌, Contains, IfSome, IsTrue}
+use Rattle.ep_size.proofs.Words.{subst, sym, arith, w64, ints, to_z-of_z, ◌∷◌, ◌↔◌, IfSome, IsTrue, measured_of, LeavesDomains}
+use Rattle.std.specs.Prelude.{Contains}
 use Rattle.ep_size.proofs.SliceSteps.{every_leaves, has_told, kept_some, stated_leaves}
-use Rattle.ep_size.specs.Indices.{measured_of}
-use Rattle.ep_size.specs.Slices.{LeavesDomains}
 use Rattle.ep_size.proofs.slices.domains_with.Goals as goal
 
 pub returns-then-has : goal.returns-then-has

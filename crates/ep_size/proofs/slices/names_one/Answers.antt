@@ -1,10 +1,5 @@
-use Rattle.std.specs.Prelude.{◌↔◌, Contains, IsTrue}
-use Rattle.std.proofs.Common.{subst, ap, sym, ◌∙◌, arith, w64}
-use Rattle.std.proofs.lemmas.Int.{ints, to_z-of_z}
-use Rattle.ep_eval.proofs.ListLaws.{has_is}
-use Rattle.ep_size.specs.Indices.{measured_of}
-use Rattle.ep_size.specs.Slices.{names_one}
-use Rattle.ep_size.specs.declared.reading.Indexed.TheVariants.{Stated}
+use Rattle.ep_size.proofs.Words.{◌↔◌, IsTrue, subst, ap, sym, ◌∙◌, arith, w64, ints, to_z-of_z, has_is, measured_of, names_one, Stated}
+use Rattle.std.specs.Prelude.{Contains}
 use Rattle.ep_size.proofs.slices.names_one.Goals as goal
 
 pub returns-in-Some : goal.returns-in-Some

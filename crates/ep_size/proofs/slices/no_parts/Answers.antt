@@ -1,9 +1,5 @@
-use Rattle.std.proofs.Common.{ap, subst, ◌∙◌, [], map}
-use Rattle.ep_tree.specs.Values.{as_parts, matrix}
+use Rattle.ep_size.proofs.Words.{ap, subst, ◌∙◌, [], map, as_parts, matrix, grid_of, TellsExtent, Matrix}
 use Rattle.ep_size.proofs.ListNodes.{listed_matrix}
-use Rattle.ep_size.specs.Extents.{grid_of}
-use Rattle.ep_size.specs.Lists.{TellsExtent}
-use Rattle.ep_size.specs.declared.extents.Extent.{Matrix}
 use Rattle.ep_size.proofs.slices.no_parts.Goals as goal
 
 pub returns : goal.returns

@@ -1,13 +1,7 @@
-use Rattle.std.proofs.Common.{Ok, map, refl, subst, sym, ◌∙◌}
-use Rattle.std.specs.Prelude.{IfSome}
-use Rattle.ep_tree.specs.Trees.{read}
-use Rattle.ep_tree.specs.Values.{filled}
+use Rattle.ep_size.proofs.Words.{Ok, map, refl, subst, sym, ◌∙◌, IfSome, read, filled, grid_of, plain_span, measured_of, LeavesDomains}
 use Rattle.ep_size.proofs.ListNodes.{if_ok, lists_finish}
 use Rattle.ep_size.proofs.SliceParts.{apart_finishes}
 use Rattle.ep_size.proofs.SliceSteps.{cells_are, cells_listed, slice_node}
-use Rattle.ep_size.specs.Extents.{grid_of, plain_span}
-use Rattle.ep_size.specs.Indices.{measured_of}
-use Rattle.ep_size.specs.Slices.{LeavesDomains}
 use Rattle.ep_size.specs.declared.extents.Extent.TheVariants.{Cells}
 use Rattle.ep_size.proofs.slices.slice_node.Goals as goal
 

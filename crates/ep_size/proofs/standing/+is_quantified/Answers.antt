@@ -1,10 +1,4 @@
-use Rattle.std.proofs.Common.{ap, sym, ◌∙◌, Some}
-use Rattle.std.specs.Prelude.{if◌then◌else◌}
-use Rattle.ep_tree.specs.Environments.{has_value, with_number}
-use Rattle.ep_tree.specs.Reach.{decisions_in, is_decision}
-use Rattle.ep_tree.specs.Types.{of_scalar}
-use Rattle.ep_tree.specs.Values.{single}
-use Rattle.ep_eval.specs.Scopes.{with_all}
+use Rattle.ep_size.proofs.Words.{ap, sym, ◌∙◌, Some, if◌then◌else◌, has_value, with_number, decisions_in, is_decision, of_scalar, single, with_all}
 use Rattle.ep_size.proofs.standing.+is_quantified.Goals as goal
 
 pub returns-in-Nothing-clause-decided : goal.returns-in-Nothing-clause-decided

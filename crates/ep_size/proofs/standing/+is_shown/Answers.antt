@@ -1,8 +1,4 @@
-use Rattle.std.proofs.Common.{ap, sym, ◌∙◌, ◌&&◌}
-use Rattle.std.specs.Prelude.{not}
-use Rattle.ep_tree.specs.Reach.{decisions_in, hiding}
-use Rattle.ep_eval.specs.Scopes.{env_in}
-use Rattle.ep_size.specs.Standings.{hidden_without}
+use Rattle.ep_size.proofs.Words.{ap, sym, ◌∙◌, ◌&&◌, not, decisions_in, hiding, env_in, hidden_without}
 use Rattle.ep_size.proofs.standing.+is_shown.Goals as goal
 
 pub returns-in-Nothing : goal.returns-in-Nothing

@@ -1,15 +1,5 @@
-use Rattle.std.proofs.Common.{◌≡◌, ◌&&◌, ap, sym, ◌∙◌, ◌+◌, refl, drop}
-use Rattle.std.proofs.Math.Bool.{and-true}
-use Rattle.ep_tree.proofs.ViewLemmas.{kind_tree-all_of, kind_tree-any_of, kind_tree-chain, kind_tree-comprehension, kind_tree-in_domain, kind_tree-literal, kind_tree-named, kind_tree-number, kind_tree-quantified, kind_tree-read, kind_tree-truth, kind_tree-absolute, kind_tree-all_different, kind_tree-at_least, kind_tree-at_most, kind_tree-binary, kind_tree-compare, kind_tree-factorial, kind_tree-flatten, kind_tree-folded, kind_tree-gcc, kind_tree-group, kind_tree-in_set, kind_tree-lex, kind_tree-minus, kind_tree-negation, kind_tree-table, kind_tree-to_int, domain_kind_tree-bool, domain_kind_tree-group, domain_kind_tree-int, domain_kind_tree-matrix, domain_kind_tree-named, domain_kind_tree-ranges, domain_kind_tree-set, index_of, with_range-one, with_range-span}
-use Rattle.ep_tree.specs.Reach.{decisions_in, generator_names, hiding, holds_decision}
-use Rattle.ep_tree.specs.Views.{domain_kind_tree, domain_tree, domains_of, end_of, expr_tree, expr_trees, generators_of, indices_of, kind_tree, ranges_of, terms_of}
-use Rattle.ep_eval.proofs.DomainTypes.{index_is}
-use Rattle.ep_forms.specs.Forms.{index_at}
-use Rattle.ep_eval.specs.Ranges.{alone}
-use Rattle.ep_tree.specs.Trees.{no_ranges}
-use Rattle.ep_eval.specs.Scopes.{env_in}
-use Rattle.ep_size.specs.Free.{are_free, are_free_domains, are_free_generators, are_free_ranges, is_free, is_free_domain, is_free_end, is_free_index}
-use Rattle.ep_size.specs.Standings.{both, standing_of, standing_of_all, standing_of_indices, standing_of_terms, hidden_without}
+use Rattle.ep_size.proofs.Words.{◌≡◌, ◌&&◌, ap, sym, ◌∙◌, ◌+◌, refl, drop, and-true, kind_tree-all_of, kind_tree-any_of, kind_tree-chain, kind_tree-comprehension, kind_tree-in_domain, kind_tree-literal, kind_tree-named, kind_tree-number, kind_tree-quantified, kind_tree-read, kind_tree-truth, kind_tree-absolute, kind_tree-all_different, kind_tree-at_least, kind_tree-at_most, kind_tree-binary, kind_tree-compare, kind_tree-factorial, kind_tree-flatten, kind_tree-folded, kind_tree-gcc, kind_tree-group, kind_tree-in_set, kind_tree-lex, kind_tree-minus, kind_tree-negation, kind_tree-table, kind_tree-to_int, domain_kind_tree-bool, domain_kind_tree-group, domain_kind_tree-int, domain_kind_tree-matrix, domain_kind_tree-named, domain_kind_tree-ranges, domain_kind_tree-set, with_range-one, with_range-span, decisions_in, generator_names, hiding, holds_decision, domain_kind_tree, domain_tree, domains_of, end_of, expr_tree, expr_trees, generators_of, indices_of, kind_tree, ranges_of, terms_of, index_is, index_at, alone, no_ranges, env_in, are_free, are_free_domains, are_free_generators, are_free_ranges, is_free, is_free_domain, is_free_end, is_free_index, both, standing_of, standing_of_all, standing_of_indices, standing_of_terms, hidden_without}
+use Rattle.ep_tree.proofs.ViewLemmas.{index_of}
 use Rattle.ep_size.proofs.LookSteps.{and_more, domains_all, domains_more, generators_all, generators_more, goes_on, indices_all, indices_more, indices_whole, same_standing, parts_all, parts_more, ranges_all, ranges_more, terms_all, terms_more}
 use Rattle.ep_size.proofs.standing.+looking.Goals as goal
 

@@ -1,9 +1,4 @@
-use Rattle.std.proofs.Common.{◌≡◌, ◌&&◌, drop}
-use Rattle.ep_tree.specs.Reach.{decisions_in}
-use Rattle.ep_tree.specs.Views.{domains_of, expr_trees, generators_of, indices_of, ranges_of, terms_of}
-use Rattle.ep_eval.specs.Scopes.{env_in}
-use Rattle.ep_size.specs.Free.{are_free_domains, are_free_generators, are_free_ranges}
-use Rattle.ep_size.specs.Standings.{both, standing_of_all, standing_of_indices, standing_of_terms, hidden_without}
+use Rattle.ep_size.proofs.Words.{◌≡◌, ◌&&◌, drop, decisions_in, domains_of, expr_trees, generators_of, indices_of, ranges_of, terms_of, env_in, are_free_domains, are_free_generators, are_free_ranges, both, standing_of_all, standing_of_indices, standing_of_terms, hidden_without}
 use Rattle.ep_size.proofs.standing.+looking.Given as goal
 
 abbrev pub invariant-of_all-loop-part : goal.invariant-of_all-loop-part

@@ -1,8 +1,4 @@
-use Rattle.std.proofs.Common.{ap, sym, ◌∙◌, ◌&&◌}
-use Rattle.std.specs.Prelude.{is_some, not, option_map}
-use Rattle.ep_tree.specs.Reach.{decisions_in}
-use Rattle.ep_eval.specs.Bounds.{cells_of}
-use Rattle.ep_eval.specs.Known.{env_of}
+use Rattle.ep_size.proofs.Words.{ap, sym, ◌∙◌, ◌&&◌, is_some, not, option_map, decisions_in, cells_of, env_of}
 use Rattle.ep_size.proofs.LookSteps.{cells_decided}
 use Rattle.ep_size.proofs.standing.is_decision.Goals as goal
 

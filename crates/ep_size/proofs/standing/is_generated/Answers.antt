@@ -1,8 +1,4 @@
-use Rattle.std.proofs.Common.{ap, sym, refl, ◌∙◌, ◌+◌, ◌||◌, drop}
-use Rattle.std.specs.Prelude.{bytes_eq}
-use Rattle.std.specs.List.{list_any}
-use Rattle.ep_tree.specs.Reach.{generator_names}
-use Rattle.ep_tree.specs.Views.{generators_of}
+use Rattle.ep_size.proofs.Words.{ap, sym, refl, ◌∙◌, ◌+◌, ◌||◌, drop, bytes_eq, list_any, generator_names, generators_of}
 use Rattle.ep_size.proofs.LookSteps.{generated_all, generated_more}
 use Rattle.ep_size.proofs.standing.is_generated.Goals as goal
 

@@ -1,8 +1,4 @@
-use Rattle.std.proofs.Common.{◌≡◌, drop}
-use Rattle.std.specs.Prelude.{bytes_eq}
-use Rattle.std.specs.List.{list_any}
-use Rattle.ep_tree.specs.Reach.{generator_names}
-use Rattle.ep_tree.specs.Views.{generators_of}
+use Rattle.ep_size.proofs.Words.{◌≡◌, drop, bytes_eq, list_any, generator_names, generators_of}
 use Rattle.ep_size.proofs.standing.is_generated.Given as goal
 
 abbrev pub invariant-loop-generator : goal.invariant-loop-generator

@@ -1,6 +1,4 @@
-use Rattle.std.proofs.Common.{ap, sym, refl, ◌∙◌, ◌+◌, ◌||◌, drop}
-use Rattle.std.specs.Prelude.{bytes_eq}
-use Rattle.std.specs.List.{list_any}
+use Rattle.ep_size.proofs.Words.{ap, sym, refl, ◌∙◌, ◌+◌, ◌||◌, drop, bytes_eq, list_any}
 use Rattle.ep_size.proofs.LookSteps.{names_all, names_more}
 use Rattle.ep_size.proofs.standing.is_one_of.Goals as goal
 

@@ -1,6 +1,4 @@
-use Rattle.std.proofs.Common.{◌≡◌, drop}
-use Rattle.std.specs.Prelude.{bytes_eq}
-use Rattle.std.specs.List.{list_any}
+use Rattle.ep_size.proofs.Words.{◌≡◌, drop, bytes_eq, list_any}
 use Rattle.ep_size.proofs.standing.is_one_of.Given as goal
 
 abbrev pub invariant-loop-own : goal.invariant-loop-own

@@ -1,6 +1,4 @@
-use Rattle.std.proofs.Common.{subst, arith, map, take}
-use Rattle.ep_size.specs.Extents.{plain_span}
-use Rattle.ep_size.specs.Sums.{Sums}
+use Rattle.ep_size.proofs.Words.{subst, arith, map, take, plain_span, Sums}
 use Rattle.ep_size.proofs.ListSteps.{fed, fed_at_most}
 use Rattle.ep_size.proofs.sums.sum_all.Goals as goal
 

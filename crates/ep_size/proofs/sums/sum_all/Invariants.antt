@@ -1,6 +1,4 @@
-use Rattle.std.proofs.Common.{take, map}
-use Rattle.ep_size.specs.Extents.{plain_span}
-use Rattle.ep_size.specs.Sums.{Sums}
+use Rattle.ep_size.proofs.Words.{take, map, plain_span, Sums}
 use Rattle.ep_size.proofs.sums.sum_all.Given as goal
 
 abbrev pub invariant-loop-span : goal.invariant-loop-span

@@ -1,6 +1,4 @@
-use Rattle.std.proofs.Common.{◌∙◌, ap}
-use Rattle.ep_base.specs.Intervals.{sum_cost}
-use Rattle.ep_size.specs.Totals.{capped}
+use Rattle.ep_size.proofs.Words.{◌∙◌, ap, sum_cost, capped}
 use Rattle.ep_size.proofs.sums.told_cost.Goals as goal
 
 pub returns : goal.returns

@@ -1,7 +1,4 @@
-use Rattle.std.proofs.Common.{arith, SFits}
-use Rattle.std.specs.Int.{w128}
-use Rattle.std.proofs.lemmas.Int.{ints}
-use Rattle.ep_base.specs.Intervals.{width}
+use Rattle.ep_size.proofs.Words.{arith, SFits, w128, ints, width}
 use Rattle.ep_size.proofs.SumSteps.{width_few, width_many, width_none}
 use Rattle.ep_size.proofs.sums.told_width.Goals as goal
 

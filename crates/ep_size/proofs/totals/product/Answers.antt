@@ -1,5 +1,4 @@
-use Rattle.std.proofs.Common.{◌*◌, ◌≤◌, arith}
-use Rattle.std.proofs.Math.Nat.{mul-le-mul}
+use Rattle.ep_size.proofs.Words.{◌*◌, ◌≤◌, arith, mul-le-mul}
 use Rattle.ep_size.proofs.totals.product.Goals as goal
 
 pub overflow_mul-one : goal.overflow_mul-one

@@ -1,5 +1,4 @@
-use Rattle.std.proofs.Common.{◌+◌, ◌*◌, length, refl}
-use Rattle.ep_tree.specs.Measures.{counting_weight, widths}
+use Rattle.ep_size.proofs.Words.{◌+◌, ◌*◌, length, refl, counting_weight, widths}
 use Rattle.ep_size.proofs.widths.counting_weight.Goals as goal
 
 pub returns-clause-weight : goal.returns-clause-weight

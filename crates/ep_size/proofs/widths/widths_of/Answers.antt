@@ -1,6 +1,4 @@
-use Rattle.std.proofs.Common.{subst, map, take}
-use Rattle.ep_size.specs.Extents.{plain_span}
-use Rattle.ep_size.specs.Widths.{Widens}
+use Rattle.ep_size.proofs.Words.{subst, map, take, plain_span, Widens}
 use Rattle.ep_size.proofs.ListSteps.{fed}
 use Rattle.ep_size.proofs.widths.widths_of.Goals as goal
 

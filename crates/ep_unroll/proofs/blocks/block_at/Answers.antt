@@ -1,9 +1,5 @@
-use Rattle.std.proofs.Common.{◌≡◌, ap, sym, ◌∙◌, arith, of_z, to_z, w64}
-use Rattle.std.proofs.lemmas.Int.{ints, to_z-of_z}
-use Rattle.std.specs.Prelude.{option_map}
-use Rattle.ep_eval.proofs.WalkSteps.{no_runs}
+use Rattle.ep_unroll.proofs.Words.{◌≡◌, ap, sym, ◌∙◌, arith, of_z, to_z, w64, ints, to_z-of_z, option_map, no_runs, block_under}
 use Rattle.ep_unroll.proofs.PartSteps.{block_is, no_block}
-use Rattle.ep_unroll.specs.Blocks.{block_under}
 use Rattle.ep_unroll.proofs.blocks.block_at.Goals as goal
 
 pub returns-in-None : goal.returns-in-None

@@ -1,4 +1,4 @@
-use Rattle.std.proofs.Common.{◌≡◌, ◌+◌, ◌*◌, ◌∙◌, ℕ, arith, sym}
+use Rattle.ep_unroll.proofs.Words.{◌≡◌, ◌+◌, ◌*◌, ◌∙◌, ℕ, arith, sym}
 use Rattle.ep_unroll.proofs.TableSteps.{cells_all, cells_more, cells_none}
 use Rattle.ep_unroll.proofs.blocks.cells_over.Goals as goal
 

@@ -1,4 +1,4 @@
-use Rattle.std.proofs.Common.{◌≡◌}
+use Rattle.ep_unroll.proofs.Words.{◌≡◌}
 use Rattle.ep_unroll.proofs.TableSteps.{end_filled, one_empty, rest_empty, rest_filled}
 use Rattle.ep_unroll.proofs.blocks.has_empty.Goals as goal
 

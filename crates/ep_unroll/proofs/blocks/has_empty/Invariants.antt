@@ -1,5 +1,4 @@
-use Rattle.std.proofs.Common.{◌≡◌, ◌≤◌, drop}
-use Rattle.ep_tree.specs.Solutions.{cell_count}
+use Rattle.ep_unroll.proofs.Words.{◌≡◌, ◌≤◌, drop, cell_count}
 use Rattle.ep_unroll.proofs.blocks.has_empty.Given as goal
 
 abbrev pub invariant-loop-domain : goal.invariant-loop-domain

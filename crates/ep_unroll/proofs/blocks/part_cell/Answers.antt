@@ -1,6 +1,4 @@
-use Rattle.std.proofs.Common.{◌≡◌, ◌+◌, ◌*◌, ◌∙◌, pos, ap, arith, get_or, refl, of_z, to_z, w64}
-use Rattle.std.proofs.lemmas.Int.{ints, to_z-of_z}
-use Rattle.ep_base.specs.declared.run_lists.Run.{Run}
+use Rattle.ep_unroll.proofs.Words.{◌≡◌, ◌+◌, ◌*◌, ◌∙◌, pos, ap, arith, get_or, refl, of_z, to_z, w64, ints, to_z-of_z, Run}
 use Rattle.ep_unroll.proofs.RunParts.{run_met, run_none, run_passed}
 use Rattle.ep_unroll.specs.Blocks.{cell_of}
 use Rattle.ep_unroll.proofs.blocks.part_cell.Goals as goal

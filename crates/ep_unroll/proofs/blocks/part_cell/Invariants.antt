@@ -1,5 +1,4 @@
-use Rattle.std.proofs.Common.{◌≡◌, drop}
-use Rattle.ep_base.specs.Runs.{numbers}
+use Rattle.ep_unroll.proofs.Words.{◌≡◌, drop, numbers}
 use Rattle.ep_unroll.specs.Blocks.{cell_of}
 use Rattle.ep_unroll.proofs.blocks.part_cell.Given as goal
 

@@ -1,6 +1,4 @@
-use Rattle.std.proofs.Common.{◌≡◌, ℤ, ◌-ℤ◌, arith, of_z, to_z}
-use Rattle.std.specs.Int.{w128}
-use Rattle.std.proofs.lemmas.Int.{ints}
+use Rattle.ep_unroll.proofs.Words.{◌≡◌, ℤ, ◌-ℤ◌, arith, of_z, to_z, w128, ints}
 use Rattle.ep_unroll.proofs.RunParts.{placed}
 use Rattle.ep_unroll.proofs.blocks.place_in.Goals as goal
 

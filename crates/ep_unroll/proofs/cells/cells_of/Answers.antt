@@ -1,6 +1,4 @@
-use Rattle.std.proofs.Common.{refl, ◌∙◌}
-use Rattle.ep_instance_parts.specs.Instances.{find_of}
-use Rattle.ep_unroll.specs.Cells.{find_cells}
+use Rattle.ep_unroll.proofs.Words.{refl, ◌∙◌, find_of, find_cells}
 use Rattle.ep_unroll.proofs.IndexLists.{flat_mapped, flat_next, flat_whole}
 use Rattle.ep_unroll.proofs.cells.cells_of.Goals as goal
 

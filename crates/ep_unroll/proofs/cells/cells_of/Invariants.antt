@@ -1,7 +1,4 @@
-use Rattle.std.proofs.Common.{◌≡◌, take}
-use Rattle.std.specs.Prelude.{flat_map}
-use Rattle.ep_instance_parts.specs.Instances.{find_of}
-use Rattle.ep_unroll.specs.Cells.{find_cells}
+use Rattle.ep_unroll.proofs.Words.{◌≡◌, take, flat_map, find_of, find_cells}
 use Rattle.ep_unroll.proofs.cells.cells_of.Given as goal
 
 abbrev pub invariant-loop-find : goal.invariant-loop-find

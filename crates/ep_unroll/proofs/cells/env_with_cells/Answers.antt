@@ -1,8 +1,4 @@
-use Rattle.std.proofs.Common.{ap, ◌∙◌}
-use Rattle.ep_eval.specs.Known.{env_of}
-use Rattle.ep_instance_parts.specs.Instances.{plain_instance}
-use Rattle.ep_tree.specs.Names.{put_all}
-use Rattle.ep_tree.specs.Solutions.{cells_bound}
+use Rattle.ep_unroll.proofs.Words.{ap, ◌∙◌, env_of, plain_instance, put_all, cells_bound}
 use Rattle.ep_unroll.proofs.cells.env_with_cells.Goals as goal
 
 pub returns-clause-mode : goal.returns-clause-mode

@@ -1,10 +1,4 @@
-use Rattle.std.proofs.Common.{◌≡◌, ℕ, ◌+◌, ◌-◌, ◌<◌, ap, refl, sym, length, drop, ◌∙◌, arith}
-use Rattle.std.specs.Prelude.{map}
-use Rattle.std.proofs.lemmas.List.{drop_all}
-use Rattle.ep_eval.specs.Known.{env_of}
-use Rattle.ep_instance_parts.specs.Instances.{find_of}
-use Rattle.ep_tree.specs.Names.{put_all}
-use Rattle.ep_tree.specs.Solutions.{cells_bound}
+use Rattle.ep_unroll.proofs.Words.{◌≡◌, ℕ, ◌+◌, ◌-◌, ◌<◌, ap, refl, sym, length, drop, ◌∙◌, arith, map, drop_all, env_of, find_of, put_all, cells_bound}
 use Rattle.ep_unroll.proofs.CellNames.{named_more, named_none}
 use Rattle.ep_unroll.proofs.cells.name_finds.Goals as goal
 

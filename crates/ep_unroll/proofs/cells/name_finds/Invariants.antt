@@ -1,9 +1,4 @@
-use Rattle.std.proofs.Common.{◌≡◌, ◌-◌, drop, length}
-use Rattle.std.specs.Prelude.{map}
-use Rattle.ep_eval.specs.Known.{env_of}
-use Rattle.ep_instance_parts.specs.Instances.{find_of}
-use Rattle.ep_tree.specs.Names.{put_all}
-use Rattle.ep_tree.specs.Solutions.{cells_bound}
+use Rattle.ep_unroll.proofs.Words.{◌≡◌, ◌-◌, drop, length, map, env_of, find_of, put_all, cells_bound}
 use Rattle.ep_unroll.proofs.cells.name_finds.Given as goal
 
 abbrev pub invariant-loop-passed : goal.invariant-loop-passed

@@ -1,7 +1,5 @@
-use Rattle.std.proofs.Common.{ap, ◌∙◌, ◌++◌}
-use Rattle.std.specs.Prelude.{map}
-use Rattle.ep_instance_parts.specs.Instances.{find_of}
-use Rattle.ep_unroll.specs.Cells.{cell_of, find_cells, index_lists}
+use Rattle.ep_unroll.proofs.Words.{ap, ◌∙◌, ◌++◌, map, find_of, find_cells, index_lists}
+use Rattle.ep_unroll.specs.Cells.{cell_of}
 use Rattle.ep_unroll.proofs.IndexLists.{mapped_next, mapped_none, mapped_whole}
 use Rattle.ep_unroll.proofs.cells.push_cells.Goals as goal
 

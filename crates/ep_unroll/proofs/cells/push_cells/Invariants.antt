@@ -1,6 +1,4 @@
-use Rattle.std.proofs.Common.{◌≡◌, ◌++◌, take}
-use Rattle.std.specs.Prelude.{map}
-use Rattle.ep_instance_parts.specs.Instances.{find_of}
+use Rattle.ep_unroll.proofs.Words.{◌≡◌, ◌++◌, take, map, find_of}
 use Rattle.ep_unroll.specs.Cells.{cell_of}
 use Rattle.ep_unroll.proofs.cells.push_cells.Given as goal
 

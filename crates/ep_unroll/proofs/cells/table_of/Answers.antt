@@ -1,5 +1,4 @@
-use Rattle.std.proofs.Common.{ap, ◌∙◌, refl}
-use Rattle.ep_tree.specs.Solutions.{cell_count}
+use Rattle.ep_unroll.proofs.Words.{ap, ◌∙◌, refl, cell_count}
 use Rattle.ep_unroll.proofs.TableSteps.{tabled_all, tabled_more, tabled_none}
 use Rattle.ep_unroll.proofs.cells.table_of.Goals as goal
 

@@ -1,5 +1,4 @@
-use Rattle.std.proofs.Common.{ap, arith, sym, ◌∙◌, ◌∷◌}
-use Rattle.ep_eval.proofs.WalkSteps.{no_runs}
+use Rattle.ep_unroll.proofs.Words.{ap, arith, sym, ◌∙◌, ◌∷◌, no_runs}
 use Rattle.ep_unroll.proofs.choices.alone.Goals as goal
 
 pub returns : goal.returns

@@ -1,7 +1,4 @@
-use Rattle.std.proofs.Common.{subst}
-use Rattle.std.specs.Prelude.{IsSome}
-use Rattle.std.specs.List.{All}
-use Rattle.ep_ground.specs.Terms.{term_value}
+use Rattle.ep_unroll.proofs.Words.{subst, IsSome, All, term_value}
 use Rattle.ep_unroll.proofs.choices.can_be_safe.Goals as goal
 
 pub returns : goal.returns

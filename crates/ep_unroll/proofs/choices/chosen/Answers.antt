@@ -1,12 +1,8 @@
-use Rattle.std.proofs.Common.{length, refl, subst, sym, ◌<◌, ◌∙◌}
-use Rattle.std.specs.List.{All}
-use Rattle.ep_eval.specs.Scopes.{env_in, mode_in}
-use Rattle.ep_tree.specs.Views.{expr_tree}
+use Rattle.ep_unroll.proofs.Words.{length, refl, subst, sym, ◌<◌, ◌∙◌, All, env_in, mode_in, expr_tree, numbering_of}
 use Rattle.ep_unroll.proofs.FormValues.{grows_long, grows_on, if_ok}
 use Rattle.ep_unroll.proofs.GrownParts.{terms_kept}
 use Rattle.ep_unroll.proofs.ReadValues.{Choice, chosen_means, left_read, truth_means}
 use Rattle.ep_unroll.proofs.SlotSteps.{opens_known}
-use Rattle.ep_unroll.specs.Firsts.{numbering_of}
 use Rattle.ep_unroll.proofs.choices.chosen.Goals as goal
 
 pub needed_terms-requires : goal.needed_terms-requires

@@ -1,7 +1,6 @@
-use Rattle.std.proofs.Common.{subst, sym}
+use Rattle.ep_unroll.proofs.Words.{subst, sym, CanBeSafe, IsTruth}
 use Rattle.ep_unroll.proofs.FormValues.{if_ok}
 use Rattle.ep_unroll.proofs.PartReadSteps.{chosen_true}
-use Rattle.ep_unroll.specs.PartReads.{CanBeSafe, IsTruth}
 use Rattle.ep_unroll.proofs.choices.chosen_truth.Goals as goal
 
 pub returns-then-can_be_safe : goal.returns-then-can_be_safe

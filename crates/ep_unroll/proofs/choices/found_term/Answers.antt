@@ -1,7 +1,6 @@
-use Rattle.std.proofs.Common.{subst, sym, ◌∙◌}
+use Rattle.ep_unroll.proofs.Words.{subst, sym, ◌∙◌, IsFound}
 use Rattle.ep_unroll.proofs.FormValues.{if_ok}
 use Rattle.ep_unroll.proofs.PartReadSteps.{found_picks}
-use Rattle.ep_unroll.specs.PartReads.{IsFound}
 use Rattle.ep_unroll.proofs.choices.found_term.Goals as goal
 
 pub returns-then-is_none : goal.returns-then-is_none

@@ -1,4 +1,4 @@
-use Rattle.std.proofs.Common.{length, sym, ◌∙◌}
+use Rattle.ep_unroll.proofs.Words.{length, sym, ◌∙◌}
 use Rattle.ep_ground.specs.Nodes.{parts_of}
 use Rattle.ep_unroll.proofs.FormSteps.{none_known}
 use Rattle.ep_unroll.proofs.FormValues.{if_ok}

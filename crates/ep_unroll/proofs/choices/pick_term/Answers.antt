@@ -1,5 +1,4 @@
-use Rattle.std.proofs.Common.{length, ◌<◌}
-use Rattle.std.proofs.lemmas.List.Elements.{All-append}
+use Rattle.ep_unroll.proofs.Words.{length, ◌<◌, All-append}
 use Rattle.ep_ground.specs.Nodes.{parts_of}
 use Rattle.ep_unroll.proofs.choices.pick_term.Goals as goal
 

@@ -1,9 +1,4 @@
-use Rattle.std.proofs.Common.{length, refl, subst, sym}
-use Rattle.std.specs.Prelude.{option_map}
-use Rattle.std.specs.List.{All}
-use Rattle.ep_eval.specs.Scopes.{env_in, mode_in}
-use Rattle.ep_unroll.specs.Firsts.{numbering_of}
-use Rattle.ep_unroll.specs.Picks.{AreKnown, AreSlotsOf, IsSlot, SlotsMean}
+use Rattle.ep_unroll.proofs.Words.{length, refl, subst, sym, option_map, All, env_in, mode_in, numbering_of, AreKnown, AreSlotsOf, IsSlot, SlotsMean}
 use Rattle.ep_unroll.proofs.choices.read_with.Goals as goal
 
 pub chosen-requires : goal.chosen-requires

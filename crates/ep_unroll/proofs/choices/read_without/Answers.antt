@@ -1,11 +1,5 @@
-use Rattle.std.proofs.Common.{◌≡◌, None, length, refl, subst, sym}
-use Rattle.std.specs.Prelude.{IfOk}
-use Rattle.ep_eval.specs.Scopes.{env_in}
-use Rattle.ep_tree.specs.Evaluation.{read_result}
-use Rattle.ep_tree.specs.Views.{expr_tree}
+use Rattle.ep_unroll.proofs.Words.{◌≡◌, None, length, refl, subst, sym, IfOk, env_in, read_result, expr_tree, IsWorth, AreTerms, worth}
 use Rattle.ep_unroll.proofs.SlotSteps.{without_done}
-use Rattle.ep_unroll.specs.Blocks.{IsWorth}
-use Rattle.ep_unroll.specs.Meanings.{AreTerms, worth}
 use Rattle.ep_unroll.proofs.choices.read_without.Goals as goal
 
 pub returns : goal.returns

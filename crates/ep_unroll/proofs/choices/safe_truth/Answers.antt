@@ -1,6 +1,4 @@
-use Rattle.std.proofs.Common.{◌≡◌, ap, length, subst, sym, ◌∙◌, ◌∷◌, ◌++◌, [], ◌<◌}
-use Rattle.std.specs.List.{All}
-use Rattle.std.proofs.lemmas.List.Elements.{All-append}
+use Rattle.ep_unroll.proofs.Words.{◌≡◌, ap, length, subst, sym, ◌∙◌, ◌∷◌, ◌++◌, [], ◌<◌, All, All-append}
 use Rattle.ep_ground.specs.Nodes.{parts_of}
 use Rattle.ep_unroll.proofs.FormSteps.{none_known, one_known}
 use Rattle.ep_unroll.proofs.FormValues.{grows_long, if_ok}

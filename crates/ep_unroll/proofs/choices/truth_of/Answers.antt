@@ -1,9 +1,7 @@
-use Rattle.std.proofs.Common.{length, subst, sym, ap, ◌<◌, ◌∙◌, ◌∷◌, [], ◌++◌}
-use Rattle.std.specs.List.{All}
+use Rattle.ep_unroll.proofs.Words.{length, subst, sym, ap, ◌<◌, ◌∙◌, ◌∷◌, [], ◌++◌, All, Puts}
 use Rattle.ep_ground.specs.Nodes.{all_of, parts_of}
 use Rattle.ep_unroll.proofs.FormSteps.{one_known}
 use Rattle.ep_unroll.proofs.FormValues.{if_ok}
-use Rattle.ep_unroll.specs.Growing.{Puts}
 use Rattle.ep_unroll.proofs.choices.truth_of.Goals as goal
 
 pub put-requires : goal.put-requires

@@ -1,5 +1,4 @@
-use Rattle.std.proofs.Common.{sym, ◌∙◌, ◌∷◌, [], length, ◌<◌}
-use Rattle.std.proofs.lemmas.List.Elements.{All-append}
+use Rattle.ep_unroll.proofs.Words.{sym, ◌∙◌, ◌∷◌, [], length, ◌<◌, All-append}
 use Rattle.ep_ground.specs.Nodes.{parts_of}
 use Rattle.ep_unroll.proofs.FormSteps.{one_known}
 use Rattle.ep_unroll.proofs.FormValues.{if_ok}

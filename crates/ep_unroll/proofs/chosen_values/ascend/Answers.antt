@@ -1,5 +1,4 @@
-use Rattle.std.proofs.Common.{◌≡◌, ℤ, None, get_or, of_z, pos, refl, rules, to_z, w64}
-use Rattle.std.proofs.lemmas.Int.{to_z-of_z}
+use Rattle.ep_unroll.proofs.Words.{◌≡◌, ℤ, None, get_or, of_z, pos, refl, rules, to_z, w64, to_z-of_z}
 use Rattle.ep_unroll.proofs.AscendSteps.{ascend_all, ascend_begin, ascend_more}
 use Rattle.ep_unroll.proofs.chosen_values.ascend.Goals as goal
 

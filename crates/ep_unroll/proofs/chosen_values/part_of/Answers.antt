@@ -1,14 +1,4 @@
-use Rattle.std.proofs.Common.{◌≡◌, ◌+◌, ℕ, ℤ, pos, List, Some, drop, get_or, rules, ap, refl, sym, ◌∙◌, arith, w64, to_z, of_z}
-use Rattle.std.specs.Prelude.{if◌then◌else◌}
-use Rattle.std.specs.Ordering.{int_eq}
-use Rattle.std.proofs.lemmas.Int.{ints, to_z-of_z}
-use Rattle.std.proofs.lemmas.List.{drop_all, drop_more}
-use Rattle.ep_base.specs.Numbers.{compare_holds}
-use Rattle.ep_base.specs.declared.operators.CompareOp.{CompareOp}
-use Rattle.ep_tree.specs.Values.{part_at}
-use Rattle.ep_tree.specs.Views.{value_tree, values_from}
-use Rattle.ep_eval.proofs.ReadSteps.{part_next, part_none, part_short}
-use Rattle.ep_eval.proofs.WalkSteps.{no_runs}
+use Rattle.ep_unroll.proofs.Words.{◌≡◌, ◌+◌, ℕ, ℤ, pos, List, Some, drop, get_or, rules, ap, refl, sym, ◌∙◌, arith, w64, to_z, of_z, if◌then◌else◌, int_eq, ints, to_z-of_z, drop_all, drop_more, compare_holds, CompareOp, part_at, value_tree, values_from, part_next, part_none, part_short, no_runs}
 use Rattle.ep_unroll.proofs.chosen_values.part_of.Goals as goal
 
 equal_is : (n x : ℤ) → int_eq n x ≡ compare_holds CompareOp.Equal n x

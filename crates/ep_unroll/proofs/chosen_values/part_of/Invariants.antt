@@ -1,6 +1,4 @@
-use Rattle.std.proofs.Common.{◌≡◌, drop}
-use Rattle.ep_tree.specs.Values.{part_at}
-use Rattle.ep_tree.specs.Views.{values_from}
+use Rattle.ep_unroll.proofs.Words.{◌≡◌, drop, part_at, values_from}
 use Rattle.ep_unroll.proofs.chosen_values.part_of.Given as goal
 
 abbrev pub invariant-loop-own_index : goal.invariant-loop-own_index

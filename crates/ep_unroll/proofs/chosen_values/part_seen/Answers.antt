@@ -1,9 +1,4 @@
-use Rattle.std.proofs.Common.{ap, arith, sym, w64, ◌∙◌}
-use Rattle.std.specs.Prelude.{option_and_then}
-use Rattle.std.proofs.lemmas.Int.{ints, to_z-of_z}
-use Rattle.ep_eval.specs.Helds.{held_value, seen_held}
-use Rattle.ep_eval.specs.Reading.{part_under}
-use Rattle.ep_tree.specs.Views.{value_tree}
+use Rattle.ep_unroll.proofs.Words.{ap, arith, sym, w64, ◌∙◌, option_and_then, ints, to_z-of_z, held_value, seen_held, part_under, value_tree}
 use Rattle.ep_unroll.proofs.chosen_values.part_seen.Goals as goal
 
 pub returns-in-Number : goal.returns-in-Number

@@ -1,14 +1,8 @@
-use Rattle.std.proofs.Common.{ap, sym, subst, ◌∙◌, ◌∷◌, ◌++◌, [], length, ◌<◌}
-use Rattle.std.specs.List.{All}
-use Rattle.ep_eval.specs.Known.{env_of}
-use Rattle.ep_eval.specs.Scopes.{with_all}
+use Rattle.ep_unroll.proofs.Words.{ap, sym, subst, ◌∙◌, ◌∷◌, ◌++◌, [], length, ◌<◌, All, env_of, with_all, expr_tree, numbering_of, Puts}
 use Rattle.ep_ground.specs.Nodes.{all_of, parts_of}
-use Rattle.ep_tree.specs.Views.{expr_tree}
 use Rattle.ep_unroll.proofs.ClauseSteps.{clause_is}
 use Rattle.ep_unroll.proofs.FormSteps.{one_known}
 use Rattle.ep_unroll.proofs.FormValues.{if_ok}
-use Rattle.ep_unroll.specs.Firsts.{numbering_of}
-use Rattle.ep_unroll.specs.Growing.{Puts}
 use Rattle.ep_unroll.proofs.clauses.clause_term.Goals as goal
 
 pub put-requires : goal.put-requires

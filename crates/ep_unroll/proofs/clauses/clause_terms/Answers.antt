@@ -1,7 +1,5 @@
-use Rattle.std.proofs.Common.{arith}
-use Rattle.ep_eval.specs.Known.{env_of}
+use Rattle.ep_unroll.proofs.Words.{arith, env_of, numbering_of}
 use Rattle.ep_unroll.proofs.ClauseSteps.{clauses_all, clauses_begin, clauses_more}
-use Rattle.ep_unroll.specs.Firsts.{numbering_of}
 use Rattle.ep_unroll.proofs.clauses.clause_terms.Goals as goal
 
 pub loop-clause-init : goal.loop-clause-init

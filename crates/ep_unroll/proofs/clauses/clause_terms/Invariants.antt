@@ -1,9 +1,4 @@
-use Rattle.std.proofs.Common.{take}
-use Rattle.std.specs.Prelude.{map}
-use Rattle.ep_eval.specs.Known.{env_of}
-use Rattle.ep_tree.specs.Views.{expr_tree}
-use Rattle.ep_unroll.specs.Clauses.{AreClauses}
-use Rattle.ep_unroll.specs.Firsts.{numbering_of}
+use Rattle.ep_unroll.proofs.Words.{take, map, env_of, expr_tree, AreClauses, numbering_of}
 use Rattle.ep_unroll.proofs.clauses.clause_terms.Given as goal
 
 abbrev pub invariant-loop-clause : goal.invariant-loop-clause

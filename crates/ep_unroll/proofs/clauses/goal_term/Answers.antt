@@ -1,11 +1,5 @@
-use Rattle.std.proofs.Common.{refl, subst, sym, Some, None}
-use Rattle.std.specs.Prelude.{option_map}
-use Rattle.ep_eval.specs.Known.{env_of}
-use Rattle.ep_eval.specs.Scopes.{with_all}
-use Rattle.ep_instance_parts.specs.Instances.{goal_of}
+use Rattle.ep_unroll.proofs.Words.{refl, subst, sym, Some, None, option_map, env_of, with_all, goal_of, IsGoal, numbering_of}
 use Rattle.ep_unroll.proofs.MeaningSteps.{grows_none}
-use Rattle.ep_unroll.specs.Clauses.{IsGoal}
-use Rattle.ep_unroll.specs.Firsts.{numbering_of}
 use Rattle.ep_unroll.proofs.clauses.goal_term.Goals as goal
 
 pub returns-in_default : goal.returns-in_default

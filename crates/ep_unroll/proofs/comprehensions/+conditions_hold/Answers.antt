@@ -1,10 +1,4 @@
-use Rattle.std.proofs.Common.{ap, sym, ◌∙◌}
-use Rattle.std.specs.Prelude.{◌&&◌}
-use Rattle.ep_base.specs.Options.{map_both}
-use Rattle.ep_eval.proofs.WalkSteps.{no_runs}
-use Rattle.ep_tree.specs.Evaluation.{all_true, values_of}
-use Rattle.ep_tree.specs.Views.{expr_trees}
-use Rattle.ep_eval.specs.Scopes.{mode_in}
+use Rattle.ep_unroll.proofs.Words.{ap, sym, ◌∙◌, ◌&&◌, map_both, no_runs, all_true, values_of, expr_trees, mode_in}
 use Rattle.ep_unroll.proofs.PartListSteps.{no_truths, truths_cut}
 use Rattle.ep_unroll.proofs.comprehensions.+conditions_hold.Goals as goal
 

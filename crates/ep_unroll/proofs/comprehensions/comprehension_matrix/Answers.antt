@@ -1,12 +1,5 @@
-use Rattle.std.proofs.Common.{ap, length, refl, sym, ◌∙◌}
-use Rattle.ep_base.specs.Options.{on_both}
-use Rattle.ep_forms.specs.Forms.{index_at}
-use Rattle.ep_eval.specs.Scopes.{env_in}
-use Rattle.ep_tree.specs.Evaluation.{index_values}
-use Rattle.ep_tree.specs.Values.{all_defined, with_indices}
+use Rattle.ep_unroll.proofs.Words.{ap, length, refl, sym, ◌∙◌, on_both, index_at, env_in, index_values, all_defined, with_indices, AreTerms, worth, parts_in, worths}
 use Rattle.ep_unroll.proofs.PartListSteps.{comprehension_none, comprehension_some, if_both}
-use Rattle.ep_unroll.specs.Meanings.{AreTerms, worth}
-use Rattle.ep_unroll.specs.PartLists.{parts_in, worths}
 use Rattle.ep_unroll.proofs.comprehensions.comprehension_matrix.Goals as goal
 
 pub returns-in-Some : goal.returns-in-Some

@@ -1,9 +1,4 @@
-use Rattle.std.proofs.Common.{Some, ap, arith, sym, ◌∙◌}
-use Rattle.std.proofs.lemmas.Int.{ints}
-use Rattle.std.specs.Prelude.{option_map}
-use Rattle.ep_base.specs.Numbers.{is_one}
-use Rattle.ep_eval.proofs.Reaches.{is_one_word}
-use Rattle.ep_tree.specs.Evaluation.{truth_of}
+use Rattle.ep_unroll.proofs.Words.{Some, ap, arith, sym, ◌∙◌, ints, option_map, is_one, is_one_word, truth_of}
 use Rattle.ep_unroll.proofs.comprehensions.condition_holds.Goals as goal
 
 pub fixed_value-requires : goal.fixed_value-requires

@@ -1,23 +1,7 @@
-use Rattle.std.proofs.Common.{◌≡◌, ◌∷◌, ◌++◌, ◌∙◌, ◌+◌, ℤ, List, None, Some, ap, arith, drop, get_or, length, of_z, pos, refl, rules, subst, sym, to_z, w64}
-use Rattle.std.specs.Prelude.{map, option_and_then, option_map}
-use Rattle.std.proofs.lemmas.Int.{ints, to_z-of_z}
-use Rattle.std.proofs.lemmas.List.{drop_all, drop_more}
-use Rattle.ep_eval.proofs.WalkSteps.{no_runs}
-use Rattle.ep_eval.specs.Helds.{held_value, seen_held}
-use Rattle.ep_eval.specs.Reading.{part_under}
-use Rattle.ep_ground.specs.Terms.{term_value}
-use Rattle.ep_tree.specs.Values.{at_index}
-use Rattle.ep_tree.specs.Views.{value_tree}
+use Rattle.ep_unroll.proofs.Words.{◌≡◌, ◌∷◌, ◌++◌, ◌∙◌, ◌+◌, ℤ, List, None, Some, ap, arith, drop, get_or, length, of_z, pos, refl, rules, subst, sym, to_z, w64, map, option_and_then, option_map, ints, to_z-of_z, drop_all, drop_more, no_runs, held_value, seen_held, part_under, term_value, at_index, value_tree, block_under, AreTerms, worth, part_with, AreEntries, cells_value, At, Open, Unrolled}
 use Rattle.ep_unroll.proofs.EntrySteps.{entries_when, entries_whole, entries_without, no_part, part_terms, parts_entries_at, parts_entries_not_at, parts_pass_all, parts_pass_more, parts_pass_none, seen_lead, seen_miss}
 use Rattle.ep_unroll.proofs.FormValues.{if_ok}
 use Rattle.ep_unroll.proofs.PickSteps.{cells_lead, cells_miss, entries_at, entries_not_at}
-use Rattle.ep_unroll.specs.Blocks.{block_under}
-use Rattle.ep_unroll.specs.Meanings.{AreTerms, worth}
-use Rattle.ep_unroll.specs.PartReads.{part_with}
-use Rattle.ep_unroll.specs.Picks.{AreEntries}
-use Rattle.ep_unroll.specs.Readings.{cells_value}
-use Rattle.ep_unroll.specs.declared.slots.Slot.TheVariants.{At, Open}
-use Rattle.ep_unroll.specs.declared.unrolled.Unrolled.{Unrolled}
 use Rattle.ep_unroll.proofs.entries.+opening.Goals as goal
 
 pub known_entries-returns-then-is_nothing : goal.known_entries-returns-then-is_nothing

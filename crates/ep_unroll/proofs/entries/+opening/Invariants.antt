@@ -1,4 +1,4 @@
-use Rattle.std.proofs.Common.{◌+◌, ◌*◌, drop, length}
+use Rattle.ep_unroll.proofs.Words.{◌+◌, ◌*◌, drop, length}
 use Rattle.ep_unroll.proofs.EntrySteps.{PartsPassed}
 use Rattle.ep_unroll.proofs.entries.+opening.Given as goal
 

@@ -1,6 +1,4 @@
-use Rattle.std.proofs.Common.{ap, ◌∙◌}
-use Rattle.ep_eval.specs.Helds.{seen_held}
-use Rattle.ep_unroll.specs.Meanings.{worth}
+use Rattle.ep_unroll.proofs.Words.{ap, ◌∙◌, seen_held, worth}
 use Rattle.ep_unroll.proofs.entries.is_nothing.Goals as goal
 
 pub returns-in-None : goal.returns-in-None

@@ -1,13 +1,5 @@
-use Rattle.std.proofs.Common.{◌≡◌, ap, slice_get, subst, sym, ◌∙◌}
-use Rattle.std.specs.Prelude.{is_some, option_map}
-use Rattle.ep_eval.proofs.WalkSteps.{no_runs}
-use Rattle.ep_eval.specs.Helds.{seen_held}
-use Rattle.ep_ground.specs.Terms.{term_value}
-use Rattle.ep_tree.specs.Evaluation.{number_in}
-use Rattle.ep_tree.specs.Values.{single}
+use Rattle.ep_unroll.proofs.Words.{◌≡◌, ap, slice_get, subst, sym, ◌∙◌, is_some, option_map, no_runs, seen_held, term_value, number_in, single, worth, cells_value}
 use Rattle.ep_unroll.proofs.EntrySteps.{scalar_seen, single_again}
-use Rattle.ep_unroll.specs.Meanings.{worth}
-use Rattle.ep_unroll.specs.Readings.{cells_value}
 use Rattle.ep_unroll.proofs.entries.is_scalar.Goals as goal
 
 pub returns-in-Number : goal.returns-in-Number

@@ -1,7 +1,5 @@
-use Rattle.std.proofs.Common.{ap, subst, sym, ◌∙◌}
+use Rattle.ep_unroll.proofs.Words.{ap, subst, sym, ◌∙◌, AreTerms, worth, cells_value}
 use Rattle.ep_unroll.proofs.FormValues.{if_ok}
-use Rattle.ep_unroll.specs.Meanings.{AreTerms, worth}
-use Rattle.ep_unroll.specs.Readings.{cells_value}
 use Rattle.ep_unroll.proofs.entries.opened.Goals as goal
 
 pub returns-in-Number-clause-worth : goal.returns-in-Number-clause-worth

@@ -1,10 +1,5 @@
-use Rattle.std.proofs.Common.{◌≡◌, ◌∷◌, ◌+◌, ℕ, ℤ, pos, List, None, drop, get_or, rules, ap, sym, ◌∙◌, arith, w64, to_z, of_z}
-use Rattle.std.specs.Ordering.{int_eq}
-use Rattle.std.proofs.lemmas.Int.{ints, to_z-of_z}
-use Rattle.std.proofs.lemmas.List.{drop_all, drop_more}
+use Rattle.ep_unroll.proofs.Words.{◌≡◌, ◌∷◌, ◌+◌, ℕ, ℤ, pos, List, None, drop, get_or, rules, ap, sym, ◌∙◌, arith, w64, to_z, of_z, int_eq, ints, to_z-of_z, drop_all, drop_more, part_with, Unrolled, Fixed}
 use Rattle.ep_unroll.proofs.EntrySteps.{with_next, with_short, with_unlisted}
-use Rattle.ep_unroll.specs.PartReads.{part_with}
-use Rattle.ep_unroll.specs.declared.unrolled.Unrolled.{Unrolled, Fixed}
 use Rattle.ep_unroll.proofs.entries.part_with.Goals as goal
 
 pub loop-place-preserved : goal.loop-place-preserved

@@ -1,5 +1,4 @@
-use Rattle.std.proofs.Common.{◌≡◌, drop}
-use Rattle.ep_unroll.specs.PartReads.{part_with}
+use Rattle.ep_unroll.proofs.Words.{◌≡◌, drop, part_with}
 use Rattle.ep_unroll.proofs.entries.part_with.Given as goal
 
 abbrev pub invariant-loop-place : goal.invariant-loop-place

@@ -1,6 +1,6 @@
 use Rattle.ep_unroll.proofs.EntrySteps.{entries_scalar}
 use Rattle.ep_unroll.proofs.FormValues.{if_ok}
-use Rattle.ep_unroll.specs.Meanings.{worth}
+use Rattle.ep_unroll.proofs.Words.{worth}
 use Rattle.ep_unroll.proofs.entries.scalar_entry.Goals as goal
 
 pub returns : goal.returns

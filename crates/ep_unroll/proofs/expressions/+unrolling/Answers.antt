@@ -1,39 +1,15 @@
-use Rattle.std.proofs.Common.{[], ap, arith, length, of_z, refl, subst, sym, to_z, w64, ◌++◌, ◌<◌, ◌≤◌, ◌∙◌, ◌∷◌, ◌≡◌, List, Some, None}
-use Rattle.std.specs.Prelude.{option_map, map}
-use Rattle.std.proofs.lemmas.Int.{ints, to_z-of_z}
-use Rattle.ep_eval.proofs.WalkSteps.{no_runs}
-use Rattle.ep_eval.specs.Scopes.{env_in, mode_in, with_all}
-use Rattle.ep_eval.specs.Walking.{IsWalkBehind, before_rest, numbers_left}
-use Rattle.ep_tree.specs.Environments.{scalar_in, with_number}
-use Rattle.ep_tree.specs.Trees.{no_generators}
-use Rattle.ep_tree.specs.Views.{domain_tree, expr_tree, expr_trees, terms_of, generators_of}
-use Rattle.ep_tree.specs.declared.syntax.Domain.{size-Domain}
-use Rattle.ep_tree.specs.declared.syntax.Expr.{size-Expr}
+use Rattle.ep_unroll.proofs.Words.{[], ap, arith, length, of_z, refl, subst, sym, to_z, w64, ◌++◌, ◌<◌, ◌≤◌, ◌∙◌, ◌∷◌, ◌≡◌, List, Some, None, option_map, map, ints, to_z-of_z, no_runs, env_in, mode_in, with_all, IsWalkBehind, before_rest, numbers_left, scalar_in, with_number, no_generators, domain_tree, expr_tree, expr_trees, terms_of, generators_of, size-Domain, size-Expr, numbering_of, IsNumberOf, Means, Number, Unrolled, SlotMeans, SlotsMean, generators_first, generators_none, values_bare, values_part, lists_joined, part_value, part_where, parts_at, ranging_over, evaluate, size-Generator, ListsTerms, parts_in, AreScalarsOf, All, both_below, deeper, first_generator, first_within, second_within, counts_node, form_tree, index_at, one_node, quantified_tree, two_node, IsBelow, depth_of, end_depth, generators_depth, greater, listing_depth, most}
 use Rattle.ep_unroll.proofs.CycleSteps.{bare_means, group_means, instances_all, instances_begin, instances_more, number_from, signed_all, signed_begin, signed_more, terms_all, terms_begin, terms_more, to_int_means}
 use Rattle.ep_unroll.proofs.FormValues.{grows_long, if_ok, number_grown, grows_on, absolute_term, asked, compare_term, minus_term}
 use Rattle.ep_unroll.proofs.TypedReadings.{domain_numbers, number_next, numbers_behind}
 use Rattle.ep_unroll.proofs.MeaningSteps.{means_as, term_as, term_means}
-use Rattle.ep_unroll.specs.Firsts.{numbering_of}
-use Rattle.ep_unroll.specs.Meanings.{IsNumberOf, Means}
-use Rattle.ep_unroll.specs.declared.unrolled.Unrolled.{Number, Unrolled}
 use Rattle.ep_unroll.proofs.SlotSteps.{every_slot, open_slot, slots_all, slots_begin, slots_from, slots_grow, slots_more, slots_none, slots_known}
-use Rattle.ep_unroll.specs.Picks.{SlotMeans, SlotsMean}
-use Rattle.ep_eval.proofs.GeneratingSteps.{generators_first, generators_none, values_bare, values_part}
-use Rattle.ep_eval.specs.Generating.{lists_joined, part_value, part_where, parts_at, parts_of, ranging_over}
-use Rattle.ep_tree.specs.Evaluation.{evaluate}
-use Rattle.ep_tree.specs.declared.syntax.Generator.{size-Generator}
+use Rattle.ep_eval.specs.Generating.{parts_of}
 use Rattle.ep_unroll.proofs.PartListSteps.{known_all, known_begin, known_more, lists_all, lists_begin, lists_lost, lists_more, lists_none, lists_same, lists_where, literal_means, values_none, values_some}
 use Rattle.ep_unroll.proofs.ScalarSteps.{scalars_from, scalars_grown}
-use Rattle.ep_unroll.specs.PartLists.{ListsTerms, parts_in}
 use Rattle.ep_unroll.proofs.GrownParts.{terms_kept}
 use Rattle.ep_unroll.proofs.ReadValues.{means_grown}
-use Rattle.ep_unroll.specs.Scalars.{AreScalarsOf}
-use Rattle.std.specs.List.{All}
-use Rattle.ep_forms.proofs.Depths.{both_below, deeper, first_generator, first_within, second_within}
-use Rattle.ep_forms.specs.Forms.{counts_node, form_tree, index_at, one_node, quantified_tree, two_node}
-use Rattle.ep_forms.specs.Ranks.{IsBelow, depth_of, end_depth, generators_depth, greater, listing_depth}
 use Rattle.ep_unroll.proofs.expressions.+unrolling.Goals as goal
-use denote.Param.Weighed.{most}
 
 pub unrolled-fixed-requires : goal.unrolled-fixed-requires
 unrolled-fixed-requires t c = c.is_fixed.ensures c.if-is_fixed.true

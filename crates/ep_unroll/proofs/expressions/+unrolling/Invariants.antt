@@ -1,20 +1,9 @@
-use Rattle.std.proofs.Common.{◌+◌, ◌*◌, length}
-use Rattle.ep_base.specs.declared.places.Place.{Place}
-use Rattle.ep_eval.specs.Scopes.{env_in, mode_in}
-use Rattle.ep_eval.specs.Walking.{IsWalk, numbers_left}
-use Rattle.ep_tree.specs.Views.{domain_tree}
+use Rattle.ep_unroll.proofs.Words.{◌+◌, ◌*◌, length, Place, env_in, mode_in, IsWalk, numbers_left, domain_tree, numbering_of, parts_in, depth_of, end_depth, generators_depth, greater, listing_depth, walk_rank, parts_at, ranging_depth, size-Expr, most}
 use Rattle.ep_unroll.proofs.CycleSteps.{InstancesSoFar, SignedSoFar, TermsSoFar}
 use Rattle.ep_unroll.proofs.SlotSteps.{SlotsSoFar}
 use Rattle.ep_unroll.proofs.PartListSteps.{KnownSoFar, ListsSoFar}
 use Rattle.ep_unroll.proofs.TypedReadings.{AreOfScalar}
-use Rattle.ep_unroll.specs.Firsts.{numbering_of}
-use Rattle.ep_unroll.specs.PartLists.{parts_in}
-use Rattle.ep_forms.specs.Ranks.{depth_of, end_depth, generators_depth, greater, listing_depth, walk_rank}
-use Rattle.ep_eval.specs.Generating.{parts_at}
-use Rattle.ep_eval.proofs.GeneratingDepths.{ranging_depth}
-use Rattle.ep_tree.specs.declared.syntax.Expr.{size-Expr}
 use Rattle.ep_unroll.proofs.expressions.+unrolling.Given as goal
-use denote.Param.Weighed.{most}
 
 abbrev pub decreases-unrolled : goal.decreases-unrolled
 decreases-unrolled l = walk_rank (goal.size-unrolled l) 0 1

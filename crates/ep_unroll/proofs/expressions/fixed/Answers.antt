@@ -1,8 +1,5 @@
-use Rattle.std.proofs.Common.{ap, refl, sym, ◌∙◌}
-use Rattle.ep_tree.specs.Evaluation.{evaluate}
-use Rattle.ep_tree.specs.Views.{expr_tree}
+use Rattle.ep_unroll.proofs.Words.{ap, refl, sym, ◌∙◌, evaluate, expr_tree, AreTerms, worth}
 use Rattle.ep_unroll.proofs.MeaningSteps.{grows_none}
-use Rattle.ep_unroll.specs.Meanings.{AreTerms, worth}
 use Rattle.ep_unroll.proofs.expressions.fixed.Goals as goal
 
 pub returns : goal.returns

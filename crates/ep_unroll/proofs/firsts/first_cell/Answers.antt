@@ -1,6 +1,4 @@
-use Rattle.std.proofs.Common.{ap, sym, refl, ◌∙◌, ◌+◌, drop, Some}
-use Rattle.std.specs.Prelude.{if◌then◌else◌}
-use Rattle.ep_unroll.specs.Firsts.{first_in}
+use Rattle.ep_unroll.proofs.Words.{ap, sym, refl, ◌∙◌, ◌+◌, drop, Some, if◌then◌else◌, first_in}
 use Rattle.ep_unroll.proofs.FirstSteps.{firsts_all, firsts_more}
 use Rattle.ep_unroll.proofs.firsts.first_cell.Goals as goal
 

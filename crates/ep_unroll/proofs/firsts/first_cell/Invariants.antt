@@ -1,5 +1,4 @@
-use Rattle.std.proofs.Common.{◌≡◌, drop}
-use Rattle.ep_unroll.specs.Firsts.{first_in}
+use Rattle.ep_unroll.proofs.Words.{◌≡◌, drop, first_in}
 use Rattle.ep_unroll.proofs.firsts.first_cell.Given as goal
 
 abbrev pub invariant-loop-first : goal.invariant-loop-first

@@ -1,6 +1,4 @@
-use Rattle.ep_eval.specs.Scopes.{env_in, mode_in}
-use Rattle.ep_tree.specs.Views.{domain_tree}
-use Rattle.std.proofs.Common.{sym}
+use Rattle.ep_unroll.proofs.Words.{env_in, mode_in, domain_tree, sym}
 use Rattle.ep_unroll.proofs.MeaningSteps.{numbers_are}
 use Rattle.ep_unroll.proofs.fixed.fixed_numbers.Goals as goal
 

@@ -1,6 +1,4 @@
-use Rattle.ep_eval.specs.Helds.{seen_held}
-use Rattle.ep_eval.specs.Scopes.{env_in, mode_in}
-use Rattle.ep_tree.specs.Views.{expr_tree}
+use Rattle.ep_unroll.proofs.Words.{seen_held, env_in, mode_in, expr_tree}
 use Rattle.ep_unroll.proofs.MeaningSteps.{fixed_is}
 use Rattle.ep_unroll.proofs.fixed.fixed_value.Goals as goal
 

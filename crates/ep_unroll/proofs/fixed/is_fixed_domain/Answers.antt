@@ -1,5 +1,4 @@
-use Rattle.std.proofs.Common.{sym, ◌∙◌}
-use Rattle.ep_size.specs.Standings.{hidden_without}
+use Rattle.ep_unroll.proofs.Words.{sym, ◌∙◌, hidden_without}
 use Rattle.ep_unroll.proofs.fixed.is_fixed_domain.Goals as goal
 
 pub returns : goal.returns

@@ -1,11 +1,4 @@
-use Rattle.std.proofs.Common.{◌≡◌, ◌+◌, ◌∷◌, ◌++◌, [], ℕ, ℤ, List, drop, sym, ap, ◌∙◌, w64, to_z, of_z, rules, append-nil, append_assoc}
-use Rattle.std.proofs.lemmas.Int.{to_z-of_z}
-use Rattle.std.proofs.lemmas.List.{drop_all, drop_more}
-use Rattle.ep_tree.proofs.ViewLemmas.{value_tree-matrix, value_tree-number}
-use Rattle.ep_tree.specs.Values.{scalars_of, scalars_of_all}
-use Rattle.ep_tree.specs.Views.{value_tree, values_from}
-use Rattle.ep_tree.specs.declared.values.Value.{Value}
-use Rattle.ep_eval.proofs.ValueScalars.{scalars_matrix, scalars_none, scalars_part, scalars_single}
+use Rattle.ep_unroll.proofs.Words.{◌≡◌, ◌+◌, ◌∷◌, ◌++◌, [], ℕ, ℤ, List, drop, sym, ap, ◌∙◌, w64, to_z, of_z, rules, append-nil, append_assoc, to_z-of_z, drop_all, drop_more, value_tree-matrix, value_tree-number, scalars_of, scalars_of_all, value_tree, values_from, Value, scalars_matrix, scalars_none, scalars_part, scalars_single}
 use Rattle.ep_unroll.proofs.fixed_lists.+add_scalars.Goals as goal
 
 pub loop-part-preserved : goal.loop-part-preserved

@@ -1,6 +1,4 @@
-use Rattle.std.proofs.Common.{◌≡◌, ◌++◌, drop}
-use Rattle.ep_tree.specs.Values.{scalars_of_all}
-use Rattle.ep_tree.specs.Views.{values_from}
+use Rattle.ep_unroll.proofs.Words.{◌≡◌, ◌++◌, drop, scalars_of_all, values_from}
 use Rattle.ep_unroll.proofs.fixed_lists.+add_scalars.Given as goal
 
 abbrev pub invariant-loop-part : goal.invariant-loop-part

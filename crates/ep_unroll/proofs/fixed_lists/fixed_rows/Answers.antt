@@ -1,5 +1,4 @@
-use Rattle.std.proofs.Common.{ap, sym, ◌∙◌}
-use Rattle.ep_tree.specs.Evaluation.{rows_in}
+use Rattle.ep_unroll.proofs.Words.{ap, sym, ◌∙◌, rows_in}
 use Rattle.ep_unroll.proofs.fixed_lists.fixed_rows.Goals as goal
 
 pub fixed_value-requires : goal.fixed_value-requires

@@ -1,5 +1,4 @@
-use Rattle.std.proofs.Common.{ap, sym, ◌∙◌}
-use Rattle.ep_tree.specs.Evaluation.{scalars_in}
+use Rattle.ep_unroll.proofs.Words.{ap, sym, ◌∙◌, scalars_in}
 use Rattle.ep_unroll.proofs.fixed_lists.fixed_scalars.Goals as goal
 
 pub fixed_value-requires : goal.fixed_value-requires

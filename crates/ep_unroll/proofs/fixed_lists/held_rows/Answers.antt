@@ -1,8 +1,4 @@
-use Rattle.std.proofs.Common.{◌≡◌, sym, ap, subst, ◌∙◌}
-use Rattle.std.specs.Prelude.{IfOk}
-use Rattle.ep_tree.specs.Values.{rows_of}
-use Rattle.ep_eval.proofs.ValueScalars.{rows_single}
-use Rattle.ep_eval.specs.Helds.{held_value}
+use Rattle.ep_unroll.proofs.Words.{◌≡◌, sym, ap, subst, ◌∙◌, IfOk, rows_of, rows_single, held_value}
 use Rattle.ep_unroll.proofs.fixed_lists.held_rows.Goals as goal
 
 pub returns-in-Number : goal.returns-in-Number

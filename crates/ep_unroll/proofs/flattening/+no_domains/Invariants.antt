@@ -1,4 +1,4 @@
-use Rattle.std.proofs.Common.{length}
+use Rattle.ep_unroll.proofs.Words.{length}
 use Rattle.ep_unroll.proofs.flattening.+no_domains.Given as goal
 
 abbrev pub decreases-no_domains : goal.decreases-no_domains

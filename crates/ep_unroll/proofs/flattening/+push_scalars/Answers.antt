@@ -1,14 +1,6 @@
-use Rattle.std.proofs.Common.{◌≡◌, ◌+◌, ◌∷◌, [], ℕ, List, drop, sym, subst, ap, ◌∙◌}
-use Rattle.std.proofs.lemmas.List.{drop_all, drop_more}
-use Rattle.ep_base.specs.Reads.{all_there}
-use Rattle.ep_tree.specs.Evaluation.{scalars_in}
+use Rattle.ep_unroll.proofs.Words.{◌≡◌, ◌+◌, ◌∷◌, [], ℕ, List, drop, sym, subst, ap, ◌∙◌, drop_all, drop_more, all_there, scalars_in, AddsParts, worth, HaveTerms, cells_from, Unrolled}
 use Rattle.ep_unroll.proofs.FlatSteps.{flat_from, flat_same, flat_term, on_ok, parts_flat_all, parts_flat_begin, parts_flat_more}
 use Rattle.ep_unroll.proofs.MatrixSteps.{cells_scalars}
-use Rattle.ep_unroll.specs.Flats.{AddsParts}
-use Rattle.ep_unroll.specs.Meanings.{worth}
-use Rattle.ep_unroll.specs.PartLists.{HaveTerms}
-use Rattle.ep_unroll.specs.Scalars.{cells_from}
-use Rattle.ep_unroll.specs.declared.unrolled.Unrolled.{Unrolled}
 use Rattle.ep_unroll.proofs.flattening.+push_scalars.Goals as goal
 
 pub returns-in_ok-push-in-Number : goal.returns-in_ok-push-in-Number

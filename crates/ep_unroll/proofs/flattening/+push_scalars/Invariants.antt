@@ -1,4 +1,4 @@
-use Rattle.std.proofs.Common.{drop}
+use Rattle.ep_unroll.proofs.Words.{drop}
 use Rattle.ep_unroll.proofs.FlatSteps.{PartsFlat}
 use Rattle.ep_unroll.proofs.flattening.+push_scalars.Given as goal
 

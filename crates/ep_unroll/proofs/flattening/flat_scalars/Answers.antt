@@ -1,7 +1,4 @@
-use Rattle.std.proofs.Common.{subst, ◌∷◌, []}
-use Rattle.ep_tree.specs.Evaluation.{scalars_in}
-use Rattle.ep_unroll.specs.Flats.{AddsParts}
-use Rattle.ep_unroll.specs.Meanings.{worth}
+use Rattle.ep_unroll.proofs.Words.{subst, ◌∷◌, [], scalars_in, AddsParts, worth}
 use Rattle.ep_unroll.proofs.flattening.flat_scalars.Goals as goal
 
 pub returns : goal.returns

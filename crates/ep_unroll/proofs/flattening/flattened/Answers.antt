@@ -1,4 +1,4 @@
-use Rattle.std.proofs.Common.{length}
+use Rattle.ep_unroll.proofs.Words.{length}
 use Rattle.ep_unroll.proofs.FlatSteps.{flatten_is}
 use Rattle.ep_unroll.proofs.PartListSteps.{if_both}
 use Rattle.ep_unroll.proofs.flattening.flattened.Goals as goal

@@ -1,9 +1,5 @@
-use Rattle.std.proofs.Common.{◌≡◌, length, pos, ap, ◌∙◌}
-use Rattle.std.specs.Prelude.{option_map}
-use Rattle.ep_base.specs.Runs.{counting}
-use Rattle.ep_tree.specs.Values.{all_defined, as_parts, matrix}
+use Rattle.ep_unroll.proofs.Words.{◌≡◌, length, pos, ap, ◌∙◌, option_map, counting, all_defined, as_parts, matrix, worths}
 use Rattle.ep_unroll.proofs.GrownParts.{matrix_worth, terms_matrix}
-use Rattle.ep_unroll.specs.PartLists.{worths}
 use Rattle.ep_unroll.proofs.flattening.list_of.Goals as goal
 
 pub returns-clause-value : goal.returns-clause-value

@@ -1,7 +1,4 @@
-use Rattle.std.proofs.Common.{◌≡◌, ◌∷◌, ◌++◌, [], ◌+◌, length, pos, ℕ, sym, ap, ◌∙◌, arith}
-use Rattle.std.proofs.lemmas.Int.{ints}
-use Rattle.ep_base.specs.Runs.{counting}
-use Rattle.ep_numbers.proofs.Counting.{counting_more}
+use Rattle.ep_unroll.proofs.Words.{◌≡◌, ◌∷◌, ◌++◌, [], ◌+◌, length, pos, ℕ, sym, ap, ◌∙◌, arith, ints, counting, counting_more}
 use Rattle.ep_unroll.proofs.flattening.places_of.Goals as goal
 
 pub loop-i-init : goal.loop-i-init

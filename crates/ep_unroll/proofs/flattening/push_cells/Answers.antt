@@ -1,9 +1,5 @@
-use Rattle.std.proofs.Common.{◌+◌, [], arith, ap}
-use Rattle.ep_base.specs.Reads.{all_there}
+use Rattle.ep_unroll.proofs.Words.{◌+◌, [], arith, ap, all_there, AreTerms, worth, cells_value, cells_from}
 use Rattle.ep_unroll.proofs.FlatSteps.{cells_cut, cells_end, cells_first, cells_left, flat_begins, flat_cell, flat_ends, flat_more}
-use Rattle.ep_unroll.specs.Meanings.{AreTerms, worth}
-use Rattle.ep_unroll.specs.Readings.{cells_value}
-use Rattle.ep_unroll.specs.Scalars.{cells_from}
 use Rattle.ep_unroll.proofs.flattening.push_cells.Goals as goal
 
 pub loop-passed-init : goal.loop-passed-init

@@ -1,7 +1,5 @@
-use Rattle.std.proofs.Common.{[]}
-use Rattle.ep_base.specs.Reads.{all_there}
+use Rattle.ep_unroll.proofs.Words.{[], all_there, cells_from}
 use Rattle.ep_unroll.proofs.FlatSteps.{FlatSoFar, cells_left}
-use Rattle.ep_unroll.specs.Scalars.{cells_from}
 use Rattle.ep_unroll.proofs.flattening.push_cells.Given as goal
 
 abbrev pub invariant-loop-passed : goal.invariant-loop-passed

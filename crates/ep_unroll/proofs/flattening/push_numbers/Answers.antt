@@ -1,6 +1,4 @@
-use Rattle.std.proofs.Common.{◌+◌, [], ◌∷◌, Some, drop, get_or, pos, refl, w64, ap, rules}
-use Rattle.std.proofs.lemmas.Int.{to_z-of_z}
-use Rattle.std.proofs.lemmas.List.{drop_all}
+use Rattle.ep_unroll.proofs.Words.{◌+◌, [], ◌∷◌, Some, drop, get_or, pos, refl, w64, ap, rules, to_z-of_z, drop_all}
 use Rattle.ep_unroll.proofs.FlatSteps.{flat_begins, flat_ends, flat_more, flat_number, numbers_cut}
 use Rattle.ep_unroll.proofs.flattening.push_numbers.Goals as goal
 

@@ -1,4 +1,4 @@
-use Rattle.std.proofs.Common.{[], Some, drop}
+use Rattle.ep_unroll.proofs.Words.{[], Some, drop}
 use Rattle.ep_unroll.proofs.FlatSteps.{FlatSoFar}
 use Rattle.ep_unroll.proofs.flattening.push_numbers.Given as goal
 

@@ -1,5 +1,4 @@
-use Rattle.std.proofs.Common.{Some, [], ap, sym, ◌∙◌}
-use Rattle.std.specs.Prelude.{option_map}
+use Rattle.ep_unroll.proofs.Words.{Some, [], ap, sym, ◌∙◌, option_map}
 use Rattle.ep_unroll.proofs.FlatSteps.{flat_nothing, flat_same, on_ok}
 use Rattle.ep_unroll.proofs.flattening.push_seen.Goals as goal
 

@@ -1,4 +1,4 @@
-use Rattle.std.proofs.Common.{sym, ◌∙◌}
+use Rattle.ep_unroll.proofs.Words.{sym, ◌∙◌}
 use Rattle.ep_unroll.proofs.forms.can_imply.Goals as goal
 
 pub returns-in-Relational : goal.returns-in-Relational

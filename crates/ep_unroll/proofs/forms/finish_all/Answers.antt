@@ -1,9 +1,6 @@
-use Rattle.std.proofs.Common.{sym, subst}
-use Rattle.ep_eval.specs.Scopes.{mode_in}
-use Rattle.ep_forms.specs.Forms.{truths_node}
+use Rattle.ep_unroll.proofs.Words.{sym, subst, mode_in, truths_node, IsTermOf}
 use Rattle.ep_ground.specs.Nodes.{parts_of}
 use Rattle.ep_unroll.proofs.FormValues.{and_term, asked_of, if_ok, or_term}
-use Rattle.ep_unroll.specs.Meanings.{IsTermOf}
 use Rattle.ep_unroll.proofs.forms.finish_all.Goals as goal
 
 pub judged-requires : goal.judged-requires

@@ -1,12 +1,7 @@
-use Rattle.std.proofs.Common.{sym, subst, ◌∷◌, [], length, ◌<◌}
-use Rattle.std.specs.List.{All}
-use Rattle.ep_eval.specs.Scopes.{mode_in}
-use Rattle.ep_ground.specs.Nodes.{greatest, least, parts_of}
-use Rattle.ep_tree.specs.Trees.{binary}
+use Rattle.ep_unroll.proofs.Words.{sym, subst, ◌∷◌, [], length, ◌<◌, All, mode_in, greatest, least, binary, Puts, IsTermOf}
+use Rattle.ep_ground.specs.Nodes.{parts_of}
 use Rattle.ep_unroll.proofs.FormSteps.{two_known}
 use Rattle.ep_unroll.proofs.FormValues.{asked, greatest_term, if_ok, iff_term, least_term, product_term, quotient_term, remainder_term}
-use Rattle.ep_unroll.specs.Growing.{Puts}
-use Rattle.ep_unroll.specs.Meanings.{IsTermOf}
 use Rattle.ep_unroll.proofs.forms.finish_binary.Goals as goal
 
 pub put-requires : goal.put-requires

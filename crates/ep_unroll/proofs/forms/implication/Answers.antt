@@ -1,10 +1,7 @@
-use Rattle.std.proofs.Common.{sym, subst, ◌∙◌, ◌∷◌, [], length, ◌<◌, ◌≤◌}
-use Rattle.std.specs.List.{All}
-use Rattle.ep_eval.specs.Scopes.{mode_in}
+use Rattle.ep_unroll.proofs.Words.{sym, subst, ◌∙◌, ◌∷◌, [], length, ◌<◌, ◌≤◌, All, mode_in, IsJudged}
 use Rattle.ep_ground.specs.Nodes.{any_of, parts_of}
 use Rattle.ep_unroll.proofs.FormSteps.{one_known, two_known}
 use Rattle.ep_unroll.proofs.FormValues.{asked, grows_long, if_ok, implies_term}
-use Rattle.ep_unroll.specs.Truths.{IsJudged}
 use Rattle.ep_unroll.proofs.forms.implication.Goals as goal
 
 pub put-requires : goal.put-requires

@@ -1,4 +1,4 @@
-use Rattle.std.proofs.Common.{length}
+use Rattle.ep_unroll.proofs.Words.{length}
 use Rattle.ep_ground.specs.Nodes.{parts_of}
 use Rattle.ep_unroll.proofs.FormSteps.{one_known}
 use Rattle.ep_unroll.proofs.forms.magnitude.Goals as goal

@@ -1,10 +1,7 @@
-use Rattle.std.proofs.Common.{sym, subst, length, ◌<◌, pos}
-use Rattle.std.specs.Prelude.{map, ℤ, ℕ}
-use Rattle.std.specs.List.{All}
-use Rattle.ep_ground.specs.Nodes.{parts_of, sum}
+use Rattle.ep_unroll.proofs.Words.{sym, subst, length, ◌<◌, pos, map, ℤ, ℕ, All, sum, Puts}
+use Rattle.ep_ground.specs.Nodes.{parts_of}
 use Rattle.ep_unroll.proofs.FormSteps.{one_known}
 use Rattle.ep_unroll.proofs.FormValues.{if_ok}
-use Rattle.ep_unroll.specs.Growing.{Puts}
 use Rattle.ep_unroll.proofs.forms.negated.Goals as goal
 
 pub put-requires : goal.put-requires

@@ -1,4 +1,4 @@
-use Rattle.ep_ground.specs.NodeViews.{plain_node}
+use Rattle.ep_unroll.proofs.Words.{plain_node}
 use Rattle.ep_unroll.proofs.NodeValues.{put_is}
 use Rattle.ep_unroll.proofs.growing.put.Goals as goal
 

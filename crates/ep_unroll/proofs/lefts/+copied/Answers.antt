@@ -1,10 +1,7 @@
-use Rattle.std.proofs.Common.{◌≡◌, ◌∷◌, ◌++◌, ◌+◌, ◌∙◌, ℕ, List, ap, drop, refl, subst, sym}
-use Rattle.std.proofs.lemmas.List.{drop_all, drop_more}
+use Rattle.ep_unroll.proofs.Words.{◌≡◌, ◌∷◌, ◌++◌, ◌+◌, ◌∙◌, ℕ, List, ap, drop, refl, subst, sym, drop_all, drop_more, AreTerms, worth, Unrolled}
 use Rattle.ep_unroll.proofs.FormValues.{if_ok}
 use Rattle.ep_unroll.proofs.GrownParts.{matrix_terms}
 use Rattle.ep_unroll.proofs.LeftSteps.{CopiedSoFar, copied_begin, copied_done, copied_more, copied_terms}
-use Rattle.ep_unroll.specs.Meanings.{AreTerms, worth}
-use Rattle.ep_unroll.specs.declared.unrolled.Unrolled.{Unrolled}
 use Rattle.ep_unroll.proofs.lefts.+copied.Goals as goal
 
 pub loop-part-init : goal.loop-part-init

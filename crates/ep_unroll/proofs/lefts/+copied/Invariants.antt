@@ -1,4 +1,4 @@
-use Rattle.std.proofs.Common.{drop}
+use Rattle.ep_unroll.proofs.Words.{drop}
 use Rattle.ep_unroll.proofs.LeftSteps.{CopiedSoFar}
 use Rattle.ep_unroll.proofs.lefts.+copied.Given as goal
 

@@ -1,21 +1,9 @@
-use Rattle.std.proofs.Common.{◌≡◌, ◌∷◌, ◌++◌, ◌+◌, ◌∙◌, ℕ, List, None, Some, ap, arith, drop, refl, subst, sym, w64, to_z, of_z}
-use Rattle.std.specs.Prelude.{option_map}
-use Rattle.std.proofs.lemmas.Int.{ints, to_z-of_z}
-use Rattle.std.proofs.lemmas.List.{drop_all, drop_more}
-use Rattle.ep_eval.proofs.WalkSteps.{no_runs}
-use Rattle.ep_tree.specs.Values.{index_in, indices_in, read_value}
+use Rattle.ep_unroll.proofs.Words.{◌≡◌, ◌∷◌, ◌++◌, ◌+◌, ◌∙◌, ℕ, List, None, Some, ap, arith, drop, refl, subst, sym, w64, to_z, of_z, option_map, ints, to_z-of_z, drop_all, drop_more, no_runs, index_in, indices_in, read_value, IsWorth, block_under, IsLeft, AreTerms, worth, HaveTerms, part_with, parts_worth, cells_value, Unrolled, Cells, Fixed}
 use Rattle.ep_unroll.proofs.EntrySteps.{part_terms}
 use Rattle.ep_unroll.proofs.FormValues.{if_ok}
 use Rattle.ep_unroll.proofs.GrownParts.{matrix_terms, matrix_worth}
 use Rattle.ep_unroll.proofs.LeftSteps.{left_begin, left_done, left_more, left_nowhere, left_part, left_terms, nothing_of_number, nothing_seen, number_left, some_worth}
 use Rattle.ep_unroll.proofs.PartSteps.{inner_left, nothing_left}
-use Rattle.ep_unroll.specs.Blocks.{IsWorth, block_under}
-use Rattle.ep_unroll.specs.Lefts.{IsLeft}
-use Rattle.ep_unroll.specs.Meanings.{AreTerms, worth}
-use Rattle.ep_unroll.specs.PartLists.{HaveTerms}
-use Rattle.ep_unroll.specs.PartReads.{part_with, parts_worth}
-use Rattle.ep_unroll.specs.Readings.{cells_value}
-use Rattle.ep_unroll.specs.declared.unrolled.Unrolled.{Unrolled, Cells, Fixed}
 use Rattle.ep_unroll.proofs.lefts.+leaving.Goals as goal
 
 pub left_at-returns-in-Some-clause-worth : goal.left_at-returns-in-Some-clause-worth

@@ -1,5 +1,4 @@
-use Rattle.std.proofs.Common.{◌+◌, ◌*◌, drop, length}
-use Rattle.ep_tree.specs.Values.{indices_in}
+use Rattle.ep_unroll.proofs.Words.{◌+◌, ◌*◌, drop, length, indices_in}
 use Rattle.ep_unroll.proofs.LeftSteps.{LeftSoFar}
 use Rattle.ep_unroll.proofs.lefts.+leaving.Given as goal
 

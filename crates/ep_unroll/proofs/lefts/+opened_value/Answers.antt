@@ -1,13 +1,5 @@
-use Rattle.std.proofs.Common.{◌≡◌, ◌∷◌, ◌++◌, ◌+◌, ◌∙◌, ℕ, List, Some, ap, arith, drop, refl, sym, w64, to_z, of_z}
-use Rattle.std.proofs.lemmas.Int.{ints, to_z-of_z}
-use Rattle.std.proofs.lemmas.List.{drop_all, drop_more}
-use Rattle.ep_eval.specs.Helds.{held_value}
-use Rattle.ep_tree.proofs.ViewLemmas.{value_tree-matrix, value_tree-number}
-use Rattle.ep_tree.specs.Values.{matrix, single}
-use Rattle.ep_tree.specs.Views.{value_tree, values_from}
-use Rattle.ep_tree.specs.declared.values.Value.{Value}
+use Rattle.ep_unroll.proofs.Words.{◌≡◌, ◌∷◌, ◌++◌, ◌+◌, ◌∙◌, ℕ, List, Some, ap, arith, drop, refl, sym, w64, to_z, of_z, ints, to_z-of_z, drop_all, drop_more, held_value, value_tree-matrix, value_tree-number, matrix, single, value_tree, values_from, Value, AreTerms, worth}
 use Rattle.ep_unroll.proofs.LeftSteps.{opened_begin, opened_done, opened_more, opened_terms}
-use Rattle.ep_unroll.specs.Meanings.{AreTerms, worth}
 use Rattle.ep_unroll.proofs.lefts.+opened_value.Goals as goal
 
 pub loop-part-init : goal.loop-part-init

@@ -1,4 +1,4 @@
-use Rattle.std.proofs.Common.{drop}
+use Rattle.ep_unroll.proofs.Words.{drop}
 use Rattle.ep_unroll.proofs.LeftSteps.{OpenedSoFar}
 use Rattle.ep_unroll.proofs.lefts.+opened_value.Given as goal
 

@@ -1,7 +1,4 @@
-use Rattle.std.proofs.Common.{◌≡◌, ◌∙◌, Some, ap, arith, sym, w64, to_z, of_z}
-use Rattle.std.proofs.lemmas.Int.{ints, to_z-of_z}
-use Rattle.ep_tree.specs.Values.{index_in}
-use Rattle.ep_unroll.specs.Picks.{slot_index}
+use Rattle.ep_unroll.proofs.Words.{◌≡◌, ◌∙◌, Some, ap, arith, sym, w64, to_z, of_z, ints, to_z-of_z, index_in, slot_index}
 use Rattle.ep_unroll.proofs.lefts.decided_index.Goals as goal
 
 pub returns-in-Every : goal.returns-in-Every

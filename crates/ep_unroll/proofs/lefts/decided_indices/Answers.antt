@@ -1,8 +1,4 @@
-use Rattle.std.proofs.Common.{◌∷◌, ◌++◌, [], ◌∙◌, ℕ, List, Some, ap, map, sym, take}
-use Rattle.std.proofs.lemmas.List.{map-append, map_more}
-use Rattle.ep_tree.specs.Values.{index_in, indices_in}
-use Rattle.ep_unroll.specs.Picks.{slot_index}
-use Rattle.ep_unroll.specs.declared.slots.Slot.{Slot}
+use Rattle.ep_unroll.proofs.Words.{◌∷◌, ◌++◌, [], ◌∙◌, ℕ, List, Some, ap, map, sym, take, map-append, map_more, index_in, indices_in, slot_index, Slot}
 use Rattle.ep_unroll.proofs.lefts.decided_indices.Goals as goal
 
 pub loop-slot-preserved : goal.loop-slot-preserved

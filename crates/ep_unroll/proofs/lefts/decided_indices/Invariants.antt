@@ -1,7 +1,4 @@
-use Rattle.std.proofs.Common.{◌≡◌, ℤ, List, Some, map, take}
-use Rattle.ep_ground.specs.Nodes.{GroundNode}
-use Rattle.ep_tree.specs.Values.{indices_in}
-use Rattle.ep_unroll.specs.Picks.{slot_index}
+use Rattle.ep_unroll.proofs.Words.{◌≡◌, ℤ, List, Some, map, take, GroundNode, indices_in, slot_index}
 use Rattle.ep_unroll.proofs.lefts.decided_indices.Given as goal
 
 abbrev pub invariant-loop-slot : goal.invariant-loop-slot

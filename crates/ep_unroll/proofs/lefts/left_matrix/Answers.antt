@@ -1,6 +1,4 @@
-use Rattle.std.proofs.Common.{◌≡◌, ◌∙◌, [], ℕ, List, Some, arith, ap, length, map, sym}
-use Rattle.std.proofs.lemmas.List.{nil_from_length}
-use Rattle.ep_tree.specs.Values.{indices_in}
+use Rattle.ep_unroll.proofs.Words.{◌≡◌, ◌∙◌, [], ℕ, List, Some, arith, ap, length, map, sym, nil_from_length, indices_in}
 use Rattle.ep_unroll.proofs.FormValues.{if_ok}
 use Rattle.ep_unroll.proofs.GrownParts.{terms_kept}
 use Rattle.ep_unroll.proofs.ReadValues.{left_means}

@@ -1,9 +1,5 @@
-use Rattle.std.proofs.Common.{◌≡◌, ◌∙◌, Some, ap, arith, sym, w64, to_z, of_z}
-use Rattle.std.proofs.lemmas.Int.{ints, to_z-of_z}
-use Rattle.ep_eval.specs.Helds.{held_value, seen_held}
-use Rattle.ep_tree.specs.Values.{single}
+use Rattle.ep_unroll.proofs.Words.{◌≡◌, ◌∙◌, Some, ap, arith, sym, w64, to_z, of_z, ints, to_z-of_z, held_value, seen_held, single, AreTerms, worth}
 use Rattle.ep_unroll.proofs.FormValues.{if_ok}
-use Rattle.ep_unroll.specs.Meanings.{AreTerms, worth}
 use Rattle.ep_unroll.proofs.lefts.opened_seen.Goals as goal
 
 pub returns-in-Number-clause-worth : goal.returns-in-Number-clause-worth

@@ -1,5 +1,4 @@
-use Rattle.std.proofs.Common.{ap, length, sym, ◌∙◌}
-use Rattle.std.proofs.lemmas.Bool.Decides.{Decides-eqb}
+use Rattle.ep_unroll.proofs.Words.{ap, length, sym, ◌∙◌, Decides-eqb}
 use Rattle.ep_unroll.proofs.TruthSteps.{rows_all, rows_next, rows_short, unequal}
 use Rattle.ep_unroll.proofs.list_forms.are_long.Goals as goal
 

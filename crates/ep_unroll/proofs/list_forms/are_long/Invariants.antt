@@ -1,6 +1,4 @@
-use Rattle.std.proofs.Common.{◌≡◌, drop, length}
-use Rattle.std.specs.Prelude.{◌==◌}
-use Rattle.std.specs.List.{list_all}
+use Rattle.ep_unroll.proofs.Words.{◌≡◌, drop, length, ◌==◌, list_all}
 use Rattle.ep_unroll.proofs.list_forms.are_long.Given as goal
 
 abbrev pub invariant-loop-row : goal.invariant-loop-row

@@ -1,6 +1,4 @@
-use Rattle.std.proofs.Common.{ap, arith, ◌∙◌}
-use Rattle.std.specs.Prelude.{option_map}
-use Rattle.ep_eval.specs.Scopes.{mode_in}
+use Rattle.ep_unroll.proofs.Words.{ap, arith, ◌∙◌, option_map, mode_in}
 use Rattle.ep_ground.specs.Nodes.{parts_of}
 use Rattle.ep_unroll.proofs.FormValues.{asked_of, if_ok}
 use Rattle.ep_unroll.proofs.ListFormValues.{at_most_differ, at_most_is, at_most_no_counts, at_most_no_values}

@@ -1,7 +1,4 @@
-use Rattle.std.proofs.Common.{ap, arith, length, ◌∙◌, ◌++◌, ◌<◌}
-use Rattle.std.specs.Prelude.{option_map}
-use Rattle.std.proofs.lemmas.List.Elements.{All-append}
-use Rattle.ep_eval.specs.Scopes.{mode_in}
+use Rattle.ep_unroll.proofs.Words.{ap, arith, length, ◌∙◌, ◌++◌, ◌<◌, option_map, All-append, mode_in}
 use Rattle.ep_ground.specs.Nodes.{parts_of}
 use Rattle.ep_unroll.proofs.FormValues.{asked_of, if_ok}
 use Rattle.ep_unroll.proofs.ListFormValues.{counts_are, counts_differ, no_counts}

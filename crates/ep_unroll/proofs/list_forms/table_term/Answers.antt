@@ -1,7 +1,4 @@
-use Rattle.std.proofs.Common.{◌≡◌, true, false, ap, arith, length, sym, ◌∙◌}
-use Rattle.std.specs.Prelude.{option_map, ◌==◌}
-use Rattle.std.specs.List.{list_all}
-use Rattle.ep_eval.specs.Scopes.{mode_in}
+use Rattle.ep_unroll.proofs.Words.{◌≡◌, true, false, ap, arith, length, sym, ◌∙◌, option_map, ◌==◌, list_all, mode_in}
 use Rattle.ep_ground.specs.Nodes.{parts_of}
 use Rattle.ep_unroll.proofs.FormValues.{asked_of, if_ok}
 use Rattle.ep_unroll.proofs.ListFormValues.{no_table, table_is, table_untold}

@@ -1,6 +1,4 @@
-use Rattle.std.proofs.Common.{rules, ◌≡◌, ℤ, pos, ◌∷◌, List, get_or, refl, ap, w64, of_z, to_z}
-use Rattle.std.specs.Prelude.{map}
-use Rattle.std.proofs.lemmas.Int.{to_z-of_z}
+use Rattle.ep_unroll.proofs.Words.{rules, ◌≡◌, ℤ, pos, ◌∷◌, List, get_or, refl, ap, w64, of_z, to_z, map, to_z-of_z}
 use Rattle.ep_unroll.proofs.IndexLists.{flat_next, flat_whole}
 use Rattle.ep_unroll.proofs.listing.crossed.Goals as goal
 

@@ -1,5 +1,4 @@
-use Rattle.std.proofs.Common.{◌≡◌, ◌∷◌, take}
-use Rattle.std.specs.Prelude.{flat_map, map}
+use Rattle.ep_unroll.proofs.Words.{◌≡◌, ◌∷◌, take, flat_map, map}
 use Rattle.ep_unroll.proofs.listing.crossed.Given as goal
 
 abbrev pub invariant-loop-number : goal.invariant-loop-number

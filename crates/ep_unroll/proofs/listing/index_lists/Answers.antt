@@ -1,5 +1,4 @@
-use Rattle.std.proofs.Common.{◌≡◌, ℕ, ◌+◌, ◌-◌, ◌<◌, ℤ, List, length, drop, ap, sym, ◌∙◌, arith}
-use Rattle.ep_unroll.specs.Cells.{index_lists}
+use Rattle.ep_unroll.proofs.Words.{◌≡◌, ℕ, ◌+◌, ◌-◌, ◌<◌, ℤ, List, length, drop, ap, sym, ◌∙◌, arith, index_lists}
 use Rattle.ep_unroll.proofs.IndexLists.{lists_step}
 use Rattle.ep_unroll.proofs.RunParts.{no_index_lists}
 use Rattle.ep_unroll.proofs.listing.index_lists.Goals as goal

@@ -1,5 +1,4 @@
-use Rattle.std.proofs.Common.{◌≡◌, ◌-◌, drop, length}
-use Rattle.ep_unroll.specs.Cells.{index_lists}
+use Rattle.ep_unroll.proofs.Words.{◌≡◌, ◌-◌, drop, length, index_lists}
 use Rattle.ep_unroll.proofs.listing.index_lists.Given as goal
 
 abbrev pub invariant-loop-passed : goal.invariant-loop-passed

@@ -1,5 +1,4 @@
-use Rattle.std.proofs.Common.{◌≡◌, ◌∷◌, ◌++◌, take}
-use Rattle.std.specs.Prelude.{map}
+use Rattle.ep_unroll.proofs.Words.{◌≡◌, ◌∷◌, ◌++◌, take, map}
 use Rattle.ep_unroll.proofs.listing.push_all_behind.Given as goal
 
 abbrev pub invariant-loop-other : goal.invariant-loop-other

@@ -1,8 +1,4 @@
-use Rattle.std.proofs.Common.{Some, ap, sym, ◌∙◌}
-use Rattle.ep_eval.proofs.LiteralForms.{index_values-none, index_values-some}
-use Rattle.ep_tree.specs.Evaluation.{domain_values}
-use Rattle.ep_tree.specs.Views.{domain_tree}
-use Rattle.ep_eval.specs.Scopes.{mode_in}
+use Rattle.ep_unroll.proofs.Words.{Some, ap, sym, ◌∙◌, index_values-none, index_values-some, domain_values, domain_tree, mode_in}
 use Rattle.ep_unroll.proofs.literals.index_set.Goals as goal
 
 pub returns-in_ok-set-in-Some : goal.returns-in_ok-set-in-Some

@@ -1,5 +1,4 @@
-use Rattle.std.proofs.Common.{◌≡◌, ◌≤◌, ◌++◌, length}
-use Rattle.ep_eval.specs.Walking.{IsWalk, numbers_left}
+use Rattle.ep_unroll.proofs.Words.{◌≡◌, ◌≤◌, ◌++◌, length, IsWalk, numbers_left}
 use Rattle.ep_unroll.proofs.literals.listed.Given as goal
 
 abbrev pub decreases-loop-number : goal.decreases-loop-number

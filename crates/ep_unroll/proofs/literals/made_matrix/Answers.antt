@@ -1,13 +1,6 @@
-use Rattle.std.proofs.Common.{ap, sym, ◌∙◌}
-use Rattle.ep_base.specs.Options.{on_both}
-use Rattle.ep_tree.specs.Evaluation.{index_values}
-use Rattle.ep_tree.specs.Values.{all_defined, with_indices}
-use Rattle.ep_eval.specs.Scopes.{mode_in}
-use Rattle.ep_forms.specs.Forms.{index_at}
+use Rattle.ep_unroll.proofs.Words.{ap, sym, ◌∙◌, on_both, index_values, all_defined, with_indices, mode_in, index_at, AreTerms, worth, worths}
 use Rattle.ep_unroll.proofs.FormValues.{if_ok}
 use Rattle.ep_unroll.proofs.PartListSteps.{no_indices, parts_counted}
-use Rattle.ep_unroll.specs.Meanings.{AreTerms, worth}
-use Rattle.ep_unroll.specs.PartLists.{worths}
 use Rattle.ep_unroll.proofs.literals.made_matrix.Goals as goal
 
 pub returns-in-Some-clause-value : goal.returns-in-Some-clause-value

@@ -1,10 +1,6 @@
-use Rattle.std.proofs.Common.{ap, sym, ◌∙◌}
-use Rattle.std.specs.Prelude.{option_map}
-use Rattle.std.proofs.lemmas.List.{length-map}
+use Rattle.ep_unroll.proofs.Words.{ap, sym, ◌∙◌, option_map, length-map, AreTerms, worth, worths}
 use Rattle.ep_unroll.proofs.GrownParts.{matrix_worth, terms_matrix}
 use Rattle.ep_unroll.proofs.PartListSteps.{matrix_lost, matrix_made, parts_counted}
-use Rattle.ep_unroll.specs.Meanings.{AreTerms, worth}
-use Rattle.ep_unroll.specs.PartLists.{worths}
 use Rattle.ep_unroll.proofs.literals.matrix_of.Goals as goal
 
 pub returns-in-Some-clause-value : goal.returns-in-Some-clause-value

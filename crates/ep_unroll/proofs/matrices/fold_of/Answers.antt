@@ -1,13 +1,9 @@
-use Rattle.std.proofs.Common.{length, subst, sym, ◌<◌}
-use Rattle.std.specs.List.{All}
-use Rattle.ep_eval.specs.Scopes.{mode_in}
+use Rattle.ep_unroll.proofs.Words.{length, subst, sym, ◌<◌, All, mode_in, folded, IsTermOf}
 use Rattle.ep_ground.specs.Nodes.{parts_of}
-use Rattle.ep_tree.specs.Trees.{folded}
 use Rattle.ep_unroll.proofs.FormValues.{asked_of, if_ok}
 use Rattle.ep_unroll.proofs.MatrixSteps.{every_term, greatest_is, least_is, some_term}
 use Rattle.ep_unroll.proofs.ProductSteps.{product_is}
 use Rattle.ep_unroll.proofs.ScalarSteps.{scalars_are}
-use Rattle.ep_unroll.specs.Meanings.{IsTermOf}
 use Rattle.ep_unroll.proofs.matrices.fold_of.Goals as goal
 
 pub sum_of_all-requires : goal.sum_of_all-requires

@@ -1,5 +1,4 @@
-use Rattle.std.proofs.Common.{length, ◌∙◌, ◌∷◌, []}
-use Rattle.ep_eval.specs.Scopes.{mode_in}
+use Rattle.ep_unroll.proofs.Words.{length, ◌∙◌, ◌∷◌, [], mode_in}
 use Rattle.ep_ground.specs.Nodes.{parts_of}
 use Rattle.ep_unroll.proofs.FormSteps.{one_known}
 use Rattle.ep_unroll.proofs.FormValues.{asked, if_ok, member_is, member_none}

@@ -1,11 +1,5 @@
-use Rattle.std.proofs.Common.{ap, sym, ◌∙◌}
-use Rattle.std.specs.Prelude.{option_map}
-use Rattle.ep_eval.specs.Bounds.{cells_of}
-use Rattle.ep_eval.specs.Known.{env_of}
-use Rattle.ep_eval.specs.Scopes.{env_in, mode_in}
-use Rattle.ep_size.proofs.LookSteps.{only_cells_is}
+use Rattle.ep_unroll.proofs.Words.{ap, sym, ◌∙◌, option_map, cells_of, env_of, env_in, mode_in, only_cells_is, first_in, numbering_of}
 use Rattle.ep_unroll.proofs.PartSteps.{stands_for}
-use Rattle.ep_unroll.specs.Firsts.{first_in, numbering_of}
 use Rattle.ep_unroll.proofs.named.block_named.Goals as goal
 
 pub returns-in-Some-cells : goal.returns-in-Some-cells

@@ -1,9 +1,5 @@
-use Rattle.std.proofs.Common.{refl}
-use Rattle.ep_eval.specs.Scopes.{env_in, mode_in}
+use Rattle.ep_unroll.proofs.Words.{refl, env_in, mode_in, numbering_of, AreTerms, worth, Cells}
 use Rattle.ep_unroll.proofs.PartSteps.{stands_means}
-use Rattle.ep_unroll.specs.Firsts.{numbering_of}
-use Rattle.ep_unroll.specs.Meanings.{AreTerms, worth}
-use Rattle.ep_unroll.specs.declared.unrolled.Unrolled.{Cells}
 use Rattle.ep_unroll.proofs.named.named_cells.Goals as goal
 
 pub returns : goal.returns

@@ -1,4 +1,4 @@
-use Rattle.std.proofs.Common.{arith}
+use Rattle.ep_unroll.proofs.Words.{arith}
 use Rattle.ep_unroll.proofs.needs.are_there.Goals as goal
 
 pub returns : goal.returns

@@ -1,7 +1,4 @@
-use Rattle.std.proofs.Common.{ap, sym, ◌∙◌}
-use Rattle.std.specs.Prelude.{is_some}
-use Rattle.ep_tree.specs.Evaluation.{number_in}
-use Rattle.ep_unroll.specs.Meanings.{worth}
+use Rattle.ep_unroll.proofs.Words.{ap, sym, ◌∙◌, is_some, number_in, worth}
 use Rattle.ep_unroll.proofs.needs.is_number.Goals as goal
 
 pub returns-in-Fixed : goal.returns-in-Fixed

@@ -1,7 +1,5 @@
-use Rattle.std.proofs.Common.{subst, sym}
+use Rattle.ep_unroll.proofs.Words.{subst, sym, worth, AreNeeded}
 use Rattle.ep_unroll.proofs.FormValues.{if_ok}
-use Rattle.ep_unroll.specs.Meanings.{worth}
-use Rattle.ep_unroll.specs.Needs.{AreNeeded}
 use Rattle.ep_unroll.proofs.needs.needed_terms.Goals as goal
 
 pub returns-in-Cells : goal.returns-in-Cells

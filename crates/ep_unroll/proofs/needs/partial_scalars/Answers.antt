@@ -1,4 +1,4 @@
-use Rattle.std.proofs.Common.{refl}
+use Rattle.ep_unroll.proofs.Words.{refl}
 use Rattle.ep_unroll.proofs.MeaningSteps.{grows_none}
 use Rattle.ep_unroll.proofs.NeedSteps.{needed_all, needed_begin, needed_more, needed_same, number_among, part_terms, total_number}
 use Rattle.ep_unroll.proofs.needs.partial_scalars.Goals as goal

@@ -1,11 +1,8 @@
-use Rattle.std.proofs.Common.{length}
-use Rattle.ep_eval.proofs.WalkSteps.{no_runs}
+use Rattle.ep_unroll.proofs.Words.{length, no_runs, number_in, cells_value}
 use Rattle.ep_ground.specs.Nodes.{parts_of}
-use Rattle.ep_tree.specs.Evaluation.{number_in}
 use Rattle.ep_unroll.proofs.FormSteps.{none_known}
 use Rattle.ep_unroll.proofs.FormValues.{if_ok}
 use Rattle.ep_unroll.proofs.NumberSteps.{cell_number, cells_none, undefined_number}
-use Rattle.ep_unroll.specs.Readings.{cells_value}
 use Rattle.ep_unroll.proofs.numbers.cell_term.Goals as goal
 
 pub put-requires : goal.put-requires

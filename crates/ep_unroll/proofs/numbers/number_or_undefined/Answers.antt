@@ -1,10 +1,8 @@
-use Rattle.std.proofs.Common.{subst, length, w64, arith}
-use Rattle.std.proofs.lemmas.Int.{ints, to_z-of_z}
-use Rattle.ep_ground.specs.Nodes.{constant, parts_of}
+use Rattle.ep_unroll.proofs.Words.{subst, length, w64, arith, ints, to_z-of_z, constant, Puts}
+use Rattle.ep_ground.specs.Nodes.{parts_of}
 use Rattle.ep_unroll.proofs.FormSteps.{none_known}
 use Rattle.ep_unroll.proofs.FormValues.{if_ok}
 use Rattle.ep_unroll.proofs.NumberSteps.{constant_number, undefined_number}
-use Rattle.ep_unroll.specs.Growing.{Puts}
 use Rattle.ep_unroll.proofs.numbers.number_or_undefined.Goals as goal
 
 pub put-requires : goal.put-requires

@@ -1,8 +1,6 @@
-use Rattle.std.proofs.Common.{refl}
-use Rattle.ep_tree.specs.Evaluation.{number_in}
+use Rattle.ep_unroll.proofs.Words.{refl, number_in, worth}
 use Rattle.ep_unroll.proofs.FormValues.{if_ok}
 use Rattle.ep_unroll.proofs.NumberSteps.{number_means}
-use Rattle.ep_unroll.specs.Meanings.{worth}
 use Rattle.ep_unroll.proofs.numbers.number_term.Goals as goal
 
 pub returns : goal.returns

@@ -1,11 +1,6 @@
-use Rattle.std.proofs.Common.{ap, sym, subst, ◌∙◌, length, None, refl}
-use Rattle.ep_tree.specs.Evaluation.{number_in}
-use Rattle.ep_tree.specs.Values.{as_parts, matrix}
+use Rattle.ep_unroll.proofs.Words.{ap, sym, subst, ◌∙◌, length, None, refl, number_in, as_parts, matrix, AreTerms, worth, HasNumber, cells_value}
 use Rattle.ep_unroll.proofs.FormValues.{if_ok}
 use Rattle.ep_unroll.proofs.NumberSteps.{has_same, number_kept, of_matrix}
-use Rattle.ep_unroll.specs.Meanings.{AreTerms, worth}
-use Rattle.ep_unroll.specs.Numbers.{HasNumber}
-use Rattle.ep_unroll.specs.Readings.{cells_value}
 use Rattle.ep_unroll.proofs.numbers.scalar_term.Goals as goal
 
 pub returns-in-Number : goal.returns-in-Number

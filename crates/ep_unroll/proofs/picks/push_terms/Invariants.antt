@@ -1,4 +1,4 @@
-use Rattle.std.proofs.Common.{◌≡◌, ◌++◌, take}
+use Rattle.ep_unroll.proofs.Words.{◌≡◌, ◌++◌, take}
 use Rattle.ep_unroll.proofs.picks.push_terms.Given as goal
 
 abbrev pub invariant-loop-other : goal.invariant-loop-other

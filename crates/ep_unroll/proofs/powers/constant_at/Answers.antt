@@ -1,7 +1,4 @@
-use Rattle.std.proofs.Common.{Some, ap, rules, sym, w64, ◌∙◌}
-use Rattle.std.proofs.lemmas.Int.{to_z-of_z}
-use Rattle.ep_ground.specs.NodeViews.{plain_node}
-use Rattle.ep_ground.specs.Terms.{node_value, term_value}
+use Rattle.ep_unroll.proofs.Words.{Some, ap, rules, sym, w64, ◌∙◌, to_z-of_z, plain_node, node_value, term_value}
 use Rattle.ep_unroll.proofs.NodeValues.{node_value_at}
 use Rattle.ep_unroll.proofs.powers.constant_at.Goals as goal
 

@@ -1,6 +1,4 @@
-use Rattle.std.proofs.Common.{ap, ◌∙◌}
-use Rattle.ep_ground.specs.NodeViews.{plain_node}
-use Rattle.ep_ground.specs.Terms.{node_value, term_value}
+use Rattle.ep_unroll.proofs.Words.{ap, ◌∙◌, plain_node, node_value, term_value}
 use Rattle.ep_unroll.proofs.NodeValues.{node_value_at}
 use Rattle.ep_unroll.proofs.powers.is_undefined.Goals as goal
 

@@ -1,5 +1,4 @@
-use Rattle.std.proofs.Common.{arith, length}
-use Rattle.std.proofs.lemmas.Int.{ints}
+use Rattle.ep_unroll.proofs.Words.{arith, length, ints}
 use Rattle.ep_ground.specs.Nodes.{parts_of}
 use Rattle.ep_unroll.proofs.FormSteps.{none_known, one_known}
 use Rattle.ep_unroll.proofs.FormValues.{grown_value, if_ok}

@@ -1,10 +1,8 @@
-use Rattle.std.proofs.Common.{length, rules, subst, w64}
-use Rattle.std.proofs.lemmas.Int.{to_z-of_z}
+use Rattle.ep_unroll.proofs.Words.{length, rules, subst, w64, to_z-of_z, IsPower}
 use Rattle.ep_ground.specs.Nodes.{parts_of}
 use Rattle.ep_unroll.proofs.FormSteps.{none_known}
 use Rattle.ep_unroll.proofs.FormValues.{if_ok}
 use Rattle.ep_unroll.proofs.PowerSteps.{power_term, power_undefined}
-use Rattle.ep_unroll.specs.Powers.{IsPower}
 use Rattle.ep_unroll.proofs.powers.power_term.Goals as goal
 
 pub put-requires : goal.put-requires

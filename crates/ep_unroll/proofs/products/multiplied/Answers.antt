@@ -1,4 +1,4 @@
-use Rattle.std.proofs.Common.{◌<◌, length, subst, sym}
+use Rattle.ep_unroll.proofs.Words.{◌<◌, length, subst, sym}
 use Rattle.ep_ground.specs.Nodes.{parts_of}
 use Rattle.ep_unroll.proofs.ProductSteps.{product_all, product_begins, product_more, product_parts}
 use Rattle.ep_unroll.proofs.products.multiplied.Goals as goal

@@ -1,10 +1,8 @@
-use Rattle.std.proofs.Common.{length, subst, sym}
-use Rattle.ep_eval.proofs.WalkSteps.{no_runs}
+use Rattle.ep_unroll.proofs.Words.{length, subst, sym, no_runs, HasNumber}
 use Rattle.ep_ground.specs.Nodes.{parts_of}
 use Rattle.ep_unroll.proofs.FormSteps.{none_known}
 use Rattle.ep_unroll.proofs.FormValues.{if_ok}
 use Rattle.ep_unroll.proofs.ProductSteps.{first_known, multiplied, others_known, product_none}
-use Rattle.ep_unroll.specs.Numbers.{HasNumber}
 use Rattle.ep_unroll.proofs.products.product_term.Goals as goal
 
 pub multiplied-requires : goal.multiplied-requires

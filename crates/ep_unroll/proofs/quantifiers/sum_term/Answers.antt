@@ -1,9 +1,6 @@
-use Rattle.std.proofs.Common.{ap, sym, subst, ◌∷◌, length, ◌<◌, pos, [], ◌≡◌, ◌∙◌, List, refl}
-use Rattle.std.specs.Prelude.{map, ℤ, ℕ}
-use Rattle.std.specs.List.{All}
-use Rattle.ep_ground.specs.Nodes.{parts_of, sum}
+use Rattle.ep_unroll.proofs.Words.{ap, sym, subst, ◌∷◌, length, ◌<◌, pos, [], ◌≡◌, ◌∙◌, List, refl, map, ℤ, ℕ, All, sum, Puts}
+use Rattle.ep_ground.specs.Nodes.{parts_of}
 use Rattle.ep_unroll.proofs.FormValues.{if_ok}
-use Rattle.ep_unroll.specs.Growing.{Puts}
 use Rattle.ep_unroll.proofs.quantifiers.sum_term.Goals as goal
 
 terms_again : (ts : List ℕ) → map {A = ℤ × ℕ} (λ p. p.1) (map {B = ℤ × ℕ} (λ t. (pos 1, t)) ts) ≡ ts

@@ -1,9 +1,5 @@
-use Rattle.std.proofs.Common.{◌∙◌, length, refl, None}
-use Rattle.ep_eval.specs.Scopes.{mode_in}
-use Rattle.ep_ground.specs.Nodes.{parts_of, undefined}
-use Rattle.ep_ground.specs.Terms.{node_value}
-use Rattle.ep_tree.specs.Evaluation.{quantified_value}
-use Rattle.ep_tree.specs.declared.syntax.QuantOp.{QuantOp}
+use Rattle.ep_unroll.proofs.Words.{◌∙◌, length, refl, None, mode_in, undefined, node_value, quantified_value, QuantOp}
+use Rattle.ep_ground.specs.Nodes.{parts_of}
 use Rattle.ep_unroll.proofs.FormSteps.{none_known}
 use Rattle.ep_unroll.proofs.FormValues.{if_ok}
 use Rattle.ep_unroll.proofs.SumValues.{nothing_is, nothing_told}

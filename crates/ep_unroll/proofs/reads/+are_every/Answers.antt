@@ -1,7 +1,4 @@
-use Rattle.std.proofs.Common.{◌∷◌, ap, sym, ◌∙◌}
-use Rattle.std.specs.Prelude.{map}
-use Rattle.ep_eval.proofs.WalkSteps.{no_runs}
-use Rattle.ep_tree.specs.Values.{any_index, index_in, indices_in}
+use Rattle.ep_unroll.proofs.Words.{◌∷◌, ap, sym, ◌∙◌, map, no_runs, any_index, index_in, indices_in}
 use Rattle.ep_unroll.proofs.reads.+are_every.Goals as goal
 
 pub returns-in-None-index : goal.returns-in-None-index

@@ -1,4 +1,4 @@
-use Rattle.std.proofs.Common.{length}
+use Rattle.ep_unroll.proofs.Words.{length}
 use Rattle.ep_unroll.proofs.reads.+are_every.Given as goal
 
 abbrev pub decreases-are_every : goal.decreases-are_every

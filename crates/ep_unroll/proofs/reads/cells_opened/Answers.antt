@@ -1,12 +1,6 @@
-use Rattle.std.proofs.Common.{◌≡◌, [], ◌∷◌, ◌++◌, append_assoc, ap, arith, length, of_z, refl, subst, sym, to_z, w64, ◌∙◌}
-use Rattle.std.proofs.lemmas.Int.{ints, to_z-of_z}
-use Rattle.ep_eval.specs.Walking.{IsWalkBehind, before_rest, numbers_left}
-use Rattle.ep_tree.specs.Solutions.{cell_count}
+use Rattle.ep_unroll.proofs.Words.{◌≡◌, [], ◌∷◌, ◌++◌, append_assoc, ap, arith, length, of_z, refl, subst, sym, to_z, w64, ◌∙◌, ints, to_z-of_z, IsWalkBehind, before_rest, numbers_left, cell_count, AreTerms, worth, cells_value, each_from, Cells}
 use Rattle.ep_unroll.proofs.GrownParts.{terms_matrix}
 use Rattle.ep_unroll.proofs.WholeSteps.{behind_more, behind_none, cells_cut, cells_matrix, cells_none}
-use Rattle.ep_unroll.specs.Meanings.{AreTerms, worth}
-use Rattle.ep_unroll.specs.Readings.{cells_value, each_from}
-use Rattle.ep_unroll.specs.declared.unrolled.Unrolled.{Cells}
 use Rattle.ep_unroll.proofs.reads.cells_opened.Goals as goal
 
 pub loop-number-init : goal.loop-number-init

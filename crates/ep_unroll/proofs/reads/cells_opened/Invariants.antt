@@ -1,8 +1,5 @@
-use Rattle.std.proofs.Common.{◌≡◌, ◌++◌, length}
-use Rattle.ep_eval.specs.Walking.{IsWalk, numbers_left}
-use Rattle.ep_tree.specs.Solutions.{cell_count}
+use Rattle.ep_unroll.proofs.Words.{◌≡◌, ◌++◌, length, IsWalk, numbers_left, cell_count, cells_value, each_from}
 use Rattle.ep_unroll.proofs.WholeSteps.{Behind}
-use Rattle.ep_unroll.specs.Readings.{cells_value, each_from}
 use Rattle.ep_unroll.proofs.reads.cells_opened.Given as goal
 
 abbrev pub decreases-loop-number : goal.decreases-loop-number

@@ -1,12 +1,5 @@
-use Rattle.std.proofs.Common.{ap, sym, subst, ◌∙◌, ◌≡◌}
-use Rattle.ep_tree.specs.Evaluation.{read_result}
-use Rattle.ep_tree.specs.declared.values.Mode.{Mode}
-use Rattle.ep_tree.specs.declared.values.ValueType.{ValueType}
-use Rattle.ep_eval.specs.Helds.{seen_held}
-use Rattle.ep_eval.specs.Scopes.{mode_in}
+use Rattle.ep_unroll.proofs.Words.{ap, sym, subst, ◌∙◌, ◌≡◌, read_result, Mode, ValueType, seen_held, mode_in, IsWorth, AreTerms, worth}
 use Rattle.ep_unroll.proofs.PartSteps.{cells_finish, is_worth}
-use Rattle.ep_unroll.specs.Blocks.{IsWorth}
-use Rattle.ep_unroll.specs.Meanings.{AreTerms, worth}
 use Rattle.ep_unroll.proofs.reads.finish_read.Goals as goal
 
 pub returns-then-not-is_judged-clause-worth : goal.returns-then-not-is_judged-clause-worth

@@ -1,10 +1,4 @@
-use Rattle.std.proofs.Common.{ap, ◌∙◌, subst, sym, Some, arith, w64}
-use Rattle.std.proofs.lemmas.Int.{ints, to_z-of_z}
-use Rattle.ep_eval.specs.Scopes.{env_in, mode_in}
-use Rattle.ep_tree.specs.Reach.{decisions_in}
-use Rattle.ep_unroll.specs.Picks.{IsFreeIndex}
-use Rattle.ep_tree.specs.Evaluation.{number_in}
-use Rattle.ep_tree.specs.Values.{index_in}
+use Rattle.ep_unroll.proofs.Words.{ap, ◌∙◌, subst, sym, Some, arith, w64, ints, to_z-of_z, env_in, mode_in, decisions_in, IsFreeIndex, number_in, index_in}
 use Rattle.ep_unroll.proofs.PartSteps.{every_index, no_number, some_index}
 use Rattle.ep_unroll.proofs.reads.fixed_index.Goals as goal
 

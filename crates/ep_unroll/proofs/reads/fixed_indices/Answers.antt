@@ -1,11 +1,4 @@
-use Rattle.std.proofs.Common.{Option, ap, subst, sym, ◌∙◌}
-use Rattle.std.proofs.lemmas.List.Elements.{All-get_or}
-use Rattle.std.specs.Prelude.{option_map}
-use Rattle.ep_eval.specs.Scopes.{env_in, mode_in}
-use Rattle.ep_tree.specs.Reach.{decisions_in}
-use Rattle.ep_tree.specs.declared.syntax.Expr.{Expr}
-use Rattle.ep_unroll.specs.Picks.{IsFreeIndex}
-use Rattle.ep_tree.specs.Values.{index_in}
+use Rattle.ep_unroll.proofs.Words.{Option, ap, subst, sym, ◌∙◌, All-get_or, option_map, env_in, mode_in, decisions_in, Expr, IsFreeIndex, index_in}
 use Rattle.ep_unroll.proofs.PartSteps.{indices_all, indices_begin, indices_more, indices_none}
 use Rattle.ep_unroll.proofs.reads.fixed_indices.Goals as goal
 

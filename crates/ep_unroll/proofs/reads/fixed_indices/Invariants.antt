@@ -1,6 +1,5 @@
-use Rattle.ep_eval.specs.Scopes.{env_in, mode_in}
+use Rattle.ep_unroll.proofs.Words.{env_in, mode_in, Numbering, Reading}
 use Rattle.ep_unroll.proofs.PartSteps.{IndicesSoFar}
-use Rattle.ep_unroll.specs.Readings.{Numbering, Reading}
 use Rattle.ep_unroll.proofs.reads.fixed_indices.Given as goal
 
 abbrev pub invariant-loop-index : goal.invariant-loop-index

@@ -1,6 +1,4 @@
-use Rattle.std.proofs.Common.{ap, sym, ◌∙◌}
-use Rattle.ep_eval.specs.Scopes.{mode_in}
-use Rattle.ep_tree.specs.Evaluation.{read_result}
+use Rattle.ep_unroll.proofs.Words.{ap, sym, ◌∙◌, mode_in, read_result}
 use Rattle.ep_unroll.proofs.reads.is_judged.Goals as goal
 
 pub returns-in-Relational-clause-mode : goal.returns-in-Relational-clause-mode

@@ -1,5 +1,4 @@
-use Rattle.std.proofs.Common.{ap, ◌∙◌}
-use Rattle.ep_tree.specs.Evaluation.{read_result}
+use Rattle.ep_unroll.proofs.Words.{ap, ◌∙◌, read_result}
 use Rattle.ep_unroll.proofs.PartSteps.{plain_empty, plain_matrix}
 use Rattle.ep_unroll.proofs.reads.is_matrix.Goals as goal
 

@@ -1,4 +1,4 @@
-use Rattle.std.proofs.Common.{arith}
+use Rattle.ep_unroll.proofs.Words.{arith}
 use Rattle.ep_unroll.proofs.PartSteps.{every_left}
 use Rattle.ep_unroll.proofs.reads.leaves_all.Goals as goal
 

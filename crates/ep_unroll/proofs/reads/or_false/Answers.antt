@@ -1,8 +1,4 @@
-use Rattle.std.proofs.Common.{ap, sym}
-use Rattle.ep_tree.specs.Evaluation.{read_result}
-use Rattle.ep_tree.specs.declared.values.Mode.{Mode}
-use Rattle.ep_tree.specs.declared.values.ValueType.{ValueType}
-use Rattle.ep_eval.specs.Helds.{held_value, seen_held}
+use Rattle.ep_unroll.proofs.Words.{ap, sym, read_result, Mode, ValueType, held_value, seen_held}
 use Rattle.ep_unroll.proofs.reads.or_false.Goals as goal
 
 pub returns-in-Some : goal.returns-in-Some

@@ -1,12 +1,5 @@
-use Rattle.std.proofs.Common.{None, Some, ap, length, refl, sym, ◌∙◌}
-use Rattle.std.specs.Prelude.{option_map}
-use Rattle.ep_eval.specs.Scopes.{env_in, mode_in}
-use Rattle.ep_tree.specs.Values.{indices_in, read_value}
-use Rattle.ep_tree.specs.Views.{expr_tree, indices_of}
+use Rattle.ep_unroll.proofs.Words.{None, Some, ap, length, refl, sym, ◌∙◌, option_map, env_in, mode_in, indices_in, read_value, expr_tree, indices_of, IsWorth, numbering_of, AreTerms, worth}
 use Rattle.ep_unroll.proofs.PartSteps.{read_done}
-use Rattle.ep_unroll.specs.Blocks.{IsWorth}
-use Rattle.ep_unroll.specs.Firsts.{numbering_of}
-use Rattle.ep_unroll.specs.Meanings.{AreTerms, worth}
 use Rattle.ep_unroll.proofs.reads.read_named.Goals as goal
 
 pub returns-in_ok-left-in-Some : goal.returns-in_ok-left-in-Some

@@ -1,7 +1,4 @@
-use Rattle.std.proofs.Common.{ap, ◌∙◌}
-use Rattle.ep_tree.proofs.ViewLemmas.{kind_tree-named}
-use Rattle.ep_tree.specs.Trees.{read}
-use Rattle.ep_tree.specs.Views.{indices_of, kind_tree}
+use Rattle.ep_unroll.proofs.Words.{ap, ◌∙◌, kind_tree-named, read, indices_of, kind_tree}
 use Rattle.ep_unroll.proofs.reads.read_of.Goals as goal
 
 pub returns : goal.returns

@@ -1,11 +1,7 @@
-use Rattle.std.proofs.Common.{[], length, subst, sym, ◌∷◌}
-use Rattle.ep_tree.specs.Evaluation.{scalars_in}
+use Rattle.ep_unroll.proofs.Words.{[], length, subst, sym, ◌∷◌, scalars_in, AddsParts, worth, HaveTerms}
 use Rattle.ep_unroll.proofs.FlatSteps.{flat_known}
 use Rattle.ep_unroll.proofs.FormValues.{if_ok}
 use Rattle.ep_unroll.proofs.ScalarSteps.{scalars_have}
-use Rattle.ep_unroll.specs.Flats.{AddsParts}
-use Rattle.ep_unroll.specs.Meanings.{worth}
-use Rattle.ep_unroll.specs.PartLists.{HaveTerms}
 use Rattle.ep_unroll.proofs.scalars.scalar_terms.Goals as goal
 
 pub each_term-requires : goal.each_term-requires

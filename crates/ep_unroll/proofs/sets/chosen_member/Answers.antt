@@ -1,5 +1,4 @@
-use Rattle.std.proofs.Common.{◌∷◌}
-use Rattle.ep_eval.specs.Scopes.{mode_in}
+use Rattle.ep_unroll.proofs.Words.{◌∷◌, mode_in}
 use Rattle.ep_ground.specs.Nodes.{parts_of}
 use Rattle.ep_unroll.proofs.FormValues.{asked, grows_long, grows_on, if_ok}
 use Rattle.ep_unroll.proofs.SetSteps.{chosen_is}

@@ -1,6 +1,4 @@
-use Rattle.std.proofs.Common.{Some, ap, length, sym, ◌∙◌, ◌∷◌, []}
-use Rattle.std.specs.Prelude.{option_map}
-use Rattle.ep_eval.specs.Scopes.{mode_in}
+use Rattle.ep_unroll.proofs.Words.{Some, ap, length, sym, ◌∙◌, ◌∷◌, [], option_map, mode_in}
 use Rattle.ep_ground.specs.Nodes.{parts_of}
 use Rattle.ep_unroll.proofs.FormSteps.{one_known}
 use Rattle.ep_unroll.proofs.FormValues.{asked, if_ok}

@@ -1,6 +1,4 @@
-use Rattle.std.proofs.Common.{ap, ◌∙◌}
-use Rattle.std.specs.Prelude.{map}
-use Rattle.std.proofs.lemmas.List.{take_all}
+use Rattle.ep_unroll.proofs.Words.{ap, ◌∙◌, map, take_all}
 use Rattle.ep_unroll.proofs.FormValues.{if_ok}
 use Rattle.ep_unroll.proofs.SetSteps.{one_run, set_has}
 use Rattle.ep_unroll.proofs.sets.set_of.Goals as goal

@@ -1,5 +1,4 @@
-use Rattle.std.proofs.Common.{◌≡◌, take}
-use Rattle.std.specs.Prelude.{map}
+use Rattle.ep_unroll.proofs.Words.{◌≡◌, take, map}
 use Rattle.ep_unroll.proofs.SetSteps.{one_run}
 use Rattle.ep_unroll.proofs.sets.set_of.Given as goal
 

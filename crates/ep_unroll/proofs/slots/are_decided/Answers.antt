@@ -1,10 +1,4 @@
-use Rattle.std.proofs.Common.{Option}
-use Rattle.std.proofs.lemmas.List.Elements.{All-nil}
-use Rattle.ep_eval.specs.Scopes.{env_in}
-use Rattle.ep_reach.proofs.Nodes.{all_next, all_whole}
-use Rattle.ep_tree.specs.Reach.{decisions_in}
-use Rattle.ep_tree.specs.declared.syntax.Expr.{Expr}
-use Rattle.ep_unroll.specs.Picks.{IsFreeIndex}
+use Rattle.ep_unroll.proofs.Words.{Option, All-nil, env_in, all_next, all_whole, decisions_in, Expr, IsFreeIndex}
 use Rattle.ep_unroll.proofs.slots.are_decided.Goals as goal
 
 pub loop-index-init : goal.loop-index-init

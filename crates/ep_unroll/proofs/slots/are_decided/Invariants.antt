@@ -1,8 +1,4 @@
-use Rattle.std.proofs.Common.{take}
-use Rattle.std.specs.List.{All}
-use Rattle.ep_eval.specs.Scopes.{env_in}
-use Rattle.ep_tree.specs.Reach.{decisions_in}
-use Rattle.ep_unroll.specs.Picks.{IsFreeIndex}
+use Rattle.ep_unroll.proofs.Words.{take, All, env_in, decisions_in, IsFreeIndex}
 use Rattle.ep_unroll.proofs.slots.are_decided.Given as goal
 
 abbrev pub invariant-loop-index : goal.invariant-loop-index

@@ -1,10 +1,5 @@
-use Rattle.std.proofs.Common.{Some, ap, arith, of_z, sym, to_z, w64, ◌∙◌}
-use Rattle.std.proofs.lemmas.Int.{ints, to_z-of_z}
-use Rattle.ep_eval.specs.Scopes.{env_in}
-use Rattle.ep_tree.specs.Evaluation.{evaluate, number_in}
-use Rattle.ep_tree.specs.Views.{expr_tree}
+use Rattle.ep_unroll.proofs.Words.{Some, ap, arith, of_z, sym, to_z, w64, ◌∙◌, ints, to_z-of_z, env_in, evaluate, number_in, expr_tree, SlotMeans}
 use Rattle.ep_unroll.proofs.SlotSteps.{at_slot, no_slot}
-use Rattle.ep_unroll.specs.Picks.{SlotMeans}
 use Rattle.ep_unroll.proofs.slots.fixed_slot.Goals as goal
 
 pub returns-in-Some : goal.returns-in-Some

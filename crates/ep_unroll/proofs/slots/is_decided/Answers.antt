@@ -1,7 +1,4 @@
-use Rattle.std.proofs.Common.{subst, sym}
-use Rattle.ep_eval.specs.Scopes.{env_in}
-use Rattle.ep_tree.specs.Reach.{decisions_in}
-use Rattle.ep_unroll.specs.Picks.{IsFreeIndex}
+use Rattle.ep_unroll.proofs.Words.{subst, sym, env_in, decisions_in, IsFreeIndex}
 use Rattle.ep_unroll.proofs.slots.is_decided.Goals as goal
 
 pub returns-in-Some : goal.returns-in-Some

@@ -1,6 +1,5 @@
-use Rattle.std.proofs.Common.{ap, ◌∙◌}
+use Rattle.ep_unroll.proofs.Words.{ap, ◌∙◌, Every, At}
 use Rattle.ep_unroll.proofs.SlotSteps.{none_at, none_every, opens_all, opens_more, opens_same}
-use Rattle.ep_unroll.specs.declared.slots.Slot.TheVariants.{Every, At}
 use Rattle.ep_unroll.proofs.slots.open_terms.Goals as goal
 use Rattle.ep_unroll.proofs.slots.open_terms.Goals.{in-Open+in_ok-push-in-Open, in-At, in-Every}
 

@@ -1,5 +1,4 @@
-use Rattle.std.proofs.Common.{◌≡◌, ◌++◌, drop}
-use Rattle.ep_unroll.specs.Picks.{open_terms}
+use Rattle.ep_unroll.proofs.Words.{◌≡◌, ◌++◌, drop, open_terms}
 use Rattle.ep_unroll.proofs.slots.open_terms.Given as goal
 
 abbrev pub invariant-loop-slot : goal.invariant-loop-slot

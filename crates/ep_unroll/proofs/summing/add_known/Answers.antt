@@ -1,5 +1,4 @@
-use Rattle.std.proofs.Common.{Some, ◌∙◌, ap, arith, length, refl, sym, w64}
-use Rattle.std.proofs.lemmas.Int.{ints, to_z-of_z}
+use Rattle.ep_unroll.proofs.Words.{Some, ◌∙◌, ap, arith, length, refl, sym, w64, ints, to_z-of_z}
 use Rattle.ep_ground.specs.Nodes.{parts_of}
 use Rattle.ep_unroll.proofs.FormSteps.{none_known}
 use Rattle.ep_unroll.proofs.FormValues.{if_ok}

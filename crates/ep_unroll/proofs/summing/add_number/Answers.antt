@@ -1,5 +1,4 @@
-use Rattle.std.proofs.Common.{◌+ℤ◌, ◌∙◌, ap, arith, length, of_z, to_z, w64}
-use Rattle.std.proofs.lemmas.Int.{ints, to_z-of_z}
+use Rattle.ep_unroll.proofs.Words.{◌+ℤ◌, ◌∙◌, ap, arith, length, of_z, to_z, w64, ints, to_z-of_z}
 use Rattle.ep_ground.specs.Nodes.{parts_of}
 use Rattle.ep_unroll.proofs.FormSteps.{none_known}
 use Rattle.ep_unroll.proofs.SummingSteps.{number_added, number_put}

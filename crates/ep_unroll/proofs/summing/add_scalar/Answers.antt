@@ -1,9 +1,6 @@
-use Rattle.std.proofs.Common.{◌∙◌, ap, refl, sym, w64}
-use Rattle.std.proofs.lemmas.Int.{to_z-of_z}
-use Rattle.ep_tree.specs.Evaluation.{number_in}
+use Rattle.ep_unroll.proofs.Words.{◌∙◌, ap, refl, sym, w64, to_z-of_z, number_in, worth}
 use Rattle.ep_unroll.proofs.FormValues.{if_ok}
 use Rattle.ep_unroll.proofs.SummingSteps.{added_same}
-use Rattle.ep_unroll.specs.Meanings.{worth}
 use Rattle.ep_unroll.proofs.summing.add_scalar.Goals as goal
 
 pub returns-in-Fixed : goal.returns-in-Fixed

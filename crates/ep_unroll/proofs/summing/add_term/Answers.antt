@@ -1,9 +1,5 @@
-use Rattle.std.proofs.Common.{subst, sym, w64}
-use Rattle.std.proofs.lemmas.Int.{to_z-of_z}
-use Rattle.ep_tree.specs.Evaluation.{number_in}
+use Rattle.ep_unroll.proofs.Words.{subst, sym, w64, to_z-of_z, number_in, worth, AddsNumber}
 use Rattle.ep_unroll.proofs.SummingSteps.{term_added}
-use Rattle.ep_unroll.specs.Meanings.{worth}
-use Rattle.ep_unroll.specs.Summing.{AddsNumber}
 use Rattle.ep_unroll.proofs.summing.add_term.Goals as goal
 
 pub returns : goal.returns

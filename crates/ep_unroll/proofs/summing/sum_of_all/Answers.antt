@@ -1,11 +1,7 @@
-use Rattle.std.proofs.Common.{length, subst, sym, ◌∷◌, []}
-use Rattle.ep_tree.specs.Evaluation.{scalars_in}
+use Rattle.ep_unroll.proofs.Words.{length, subst, sym, ◌∷◌, [], scalars_in, AddsParts, worth, HaveTerms}
 use Rattle.ep_unroll.proofs.FlatSteps.{flat_known}
 use Rattle.ep_unroll.proofs.FormValues.{if_ok}
 use Rattle.ep_unroll.proofs.SummingSteps.{sum_is}
-use Rattle.ep_unroll.specs.Flats.{AddsParts}
-use Rattle.ep_unroll.specs.Meanings.{worth}
-use Rattle.ep_unroll.specs.PartLists.{HaveTerms}
 use Rattle.ep_unroll.proofs.summing.sum_of_all.Goals as goal
 
 pub total_of-requires : goal.total_of-requires

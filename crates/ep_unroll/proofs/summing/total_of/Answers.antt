@@ -1,5 +1,4 @@
-use Rattle.std.proofs.Common.{◌+◌, arith, refl, subst, sym, to_z, w64}
-use Rattle.std.proofs.lemmas.Int.{ints, to_z-of_z}
+use Rattle.ep_unroll.proofs.Words.{◌+◌, arith, refl, subst, sym, to_z, w64, ints, to_z-of_z}
 use Rattle.ep_ground.specs.Nodes.{parts_of}
 use Rattle.ep_unroll.proofs.FormValues.{if_ok}
 use Rattle.ep_unroll.proofs.SummingSteps.{TotalSoFar, total_begins, total_ends, total_more, total_parts}

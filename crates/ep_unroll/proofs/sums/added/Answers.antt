@@ -1,6 +1,4 @@
-use Rattle.std.proofs.Common.{ap, sym, ◌∙◌, pos, take, arith, ◌++◌, ◌∷◌, []}
-use Rattle.std.specs.Prelude.{ℤ, ℕ, map}
-use Rattle.std.proofs.lemmas.List.{map-append, take_all, take_more}
+use Rattle.ep_unroll.proofs.Words.{ap, sym, ◌∙◌, pos, take, arith, ◌++◌, ◌∷◌, [], ℤ, ℕ, map, map-append, take_all, take_more}
 use Rattle.ep_unroll.proofs.sums.added.Goals as goal
 
 pub loop-term-init : goal.loop-term-init

@@ -1,5 +1,4 @@
-use Rattle.std.proofs.Common.{◌≡◌, take, pos}
-use Rattle.std.specs.Prelude.{ℤ, ℕ, map}
+use Rattle.ep_unroll.proofs.Words.{◌≡◌, take, pos, ℤ, ℕ, map}
 use Rattle.ep_unroll.proofs.sums.added.Given as goal
 
 abbrev pub invariant-loop-term : goal.invariant-loop-term

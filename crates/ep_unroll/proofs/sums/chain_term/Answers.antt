@@ -1,6 +1,5 @@
-use Rattle.std.proofs.Common.{length, ◌<◌}
+use Rattle.ep_unroll.proofs.Words.{length, ◌<◌, All-map}
 use Rattle.ep_ground.specs.Nodes.{parts_of}
-use Rattle.std.proofs.lemmas.List.Elements.{All-map}
 use Rattle.ep_unroll.proofs.FormValues.{if_ok}
 use Rattle.ep_unroll.proofs.SumValues.{chain_is}
 use Rattle.ep_unroll.proofs.sums.chain_term.Goals as goal

@@ -1,10 +1,5 @@
-use Rattle.std.proofs.Common.{ℕ, ◌<◌, sym, subst, arith, length, List, map}
-use Rattle.std.specs.Prelude.{IsSome}
-use Rattle.std.specs.List.{All}
-use Rattle.std.proofs.lemmas.List.{get_or-map, length-map}
+use Rattle.ep_unroll.proofs.Words.{ℕ, ◌<◌, sym, subst, arith, length, List, map, IsSome, All, get_or-map, length-map, plain_node, node_value, term_value}
 use Rattle.ep_ground.specs.Nodes.{parts_of}
-use Rattle.ep_ground.specs.NodeViews.{plain_node}
-use Rattle.ep_ground.specs.Terms.{node_value, term_value}
 use Rattle.ep_unroll.proofs.NodeValues.{node_value_at}
 use Rattle.ep_unroll.proofs.TotalSteps.{absolute_total, greatest_total, least_total, power_total, product_total, quotient_total, remainder_total, sum_total}
 use Rattle.ep_unroll.proofs.totals.+telling.Goals as goal

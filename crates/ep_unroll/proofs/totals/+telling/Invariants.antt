@@ -1,7 +1,4 @@
-use Rattle.std.proofs.Common.{◌≤◌, ◌+◌, ◌*◌, ℤ, List, length, take}
-use Rattle.std.specs.Prelude.{IsSome}
-use Rattle.std.specs.List.{All}
-use Rattle.ep_ground.specs.Terms.{term_value}
+use Rattle.ep_unroll.proofs.Words.{◌≤◌, ◌+◌, ◌*◌, ℤ, List, length, take, IsSome, All, term_value}
 use Rattle.ep_unroll.proofs.totals.+telling.Given as goal
 
 abbrev pub decreases-are_total_to : goal.decreases-are_total_to

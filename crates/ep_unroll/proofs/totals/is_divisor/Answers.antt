@@ -1,7 +1,4 @@
-use Rattle.std.proofs.Common.{◌≡◌, Some, refl, arith, pos, subst, sym, ◌∙◌}
-use Rattle.std.specs.Prelude.{◌≢◌}
-use Rattle.ep_ground.specs.NodeViews.{plain_node}
-use Rattle.ep_ground.specs.Terms.{node_value, term_value}
+use Rattle.ep_unroll.proofs.Words.{◌≡◌, Some, refl, arith, pos, subst, sym, ◌∙◌, ◌≢◌, plain_node, node_value, term_value}
 use Rattle.ep_unroll.proofs.NodeValues.{node_value_at}
 use Rattle.ep_unroll.proofs.totals.is_divisor.Goals as goal
 

@@ -1,7 +1,4 @@
-use Rattle.std.proofs.Common.{sym, subst, ◌<◌, arith, pos}
-use Rattle.std.specs.Prelude.{IsSome}
-use Rattle.ep_ground.specs.NodeViews.{plain_node}
-use Rattle.ep_ground.specs.Terms.{node_value}
+use Rattle.ep_unroll.proofs.Words.{sym, subst, ◌<◌, arith, pos, IsSome, plain_node, node_value}
 use Rattle.ep_unroll.proofs.TotalSteps.{cell_total, constant_total, truth_total}
 use Rattle.ep_unroll.proofs.totals.is_total_node.Goals as goal
 

@@ -1,4 +1,4 @@
-use Rattle.std.proofs.Common.{ap, ◌∙◌, ◌++◌}
+use Rattle.ep_unroll.proofs.Words.{ap, ◌∙◌, ◌++◌}
 use Rattle.ep_unroll.proofs.truths.joined.Goals as goal
 
 pub returns : goal.returns

@@ -1,7 +1,4 @@
-use Rattle.std.proofs.Common.{sym, subst, ◌∙◌, ◌∷◌, ◌++◌, [], ap, length, ◌<◌}
-use Rattle.std.specs.List.{All}
-use Rattle.ep_eval.specs.Scopes.{mode_in}
-use Rattle.std.proofs.lemmas.List.Elements.{All-append}
+use Rattle.ep_unroll.proofs.Words.{sym, subst, ◌∙◌, ◌∷◌, ◌++◌, [], ap, length, ◌<◌, All, mode_in, All-append}
 use Rattle.ep_unroll.proofs.FormSteps.{one_known}
 use Rattle.ep_unroll.proofs.FormValues.{if_ok}
 use Rattle.ep_unroll.proofs.TruthSteps.{none_needed, those_needed}

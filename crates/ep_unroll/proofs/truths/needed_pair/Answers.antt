@@ -1,6 +1,4 @@
-use Rattle.std.proofs.Common.{sym, subst, ◌∙◌, ◌∷◌, [], length, ◌<◌}
-use Rattle.std.specs.List.{All}
-use Rattle.ep_eval.specs.Scopes.{mode_in}
+use Rattle.ep_unroll.proofs.Words.{sym, subst, ◌∙◌, ◌∷◌, [], length, ◌<◌, All, mode_in}
 use Rattle.ep_unroll.proofs.FormSteps.{two_known}
 use Rattle.ep_unroll.proofs.FormValues.{if_ok}
 use Rattle.ep_unroll.proofs.TruthSteps.{none_needed, those_needed}

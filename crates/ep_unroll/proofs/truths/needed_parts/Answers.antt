@@ -1,5 +1,4 @@
-use Rattle.std.proofs.Common.{sym, ◌∙◌}
-use Rattle.ep_eval.specs.Scopes.{mode_in}
+use Rattle.ep_unroll.proofs.Words.{sym, ◌∙◌, mode_in}
 use Rattle.ep_unroll.proofs.FormValues.{if_ok}
 use Rattle.ep_unroll.proofs.TruthSteps.{all_needed, none_needed}
 use Rattle.ep_unroll.proofs.truths.needed_parts.Goals as goal

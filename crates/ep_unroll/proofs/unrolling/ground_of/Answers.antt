@@ -1,11 +1,5 @@
-use Rattle.std.proofs.Common.{ap, ◌∙◌}
-use Rattle.std.specs.Prelude.{flat_map, map, option_map}
-use Rattle.ep_eval.specs.Known.{env_of}
-use Rattle.ep_instance_parts.specs.Instances.{goal_of, plain_instance, instance_mode}
-use Rattle.ep_tree.specs.Views.{expr_tree}
+use Rattle.ep_unroll.proofs.Words.{ap, ◌∙◌, flat_map, map, option_map, env_of, goal_of, plain_instance, instance_mode, expr_tree, find_cells, instance_cells, numbering, numbering_of}
 use Rattle.ep_unroll.proofs.GroundSteps.{ground_is}
-use Rattle.ep_unroll.specs.Cells.{find_cells, instance_cells}
-use Rattle.ep_unroll.specs.Firsts.{numbering, numbering_of}
 use Rattle.ep_unroll.proofs.unrolling.ground_of.Goals as goal
 
 pub returns-clause-cells : goal.returns-clause-cells

@@ -1,5 +1,4 @@
-use Rattle.ep_ground.specs.GroundViews.{plain_ground}
-use Rattle.ep_instance_parts.specs.Instances.{plain_instance, instance_mode}
+use Rattle.ep_unroll.proofs.Words.{plain_ground, plain_instance, instance_mode}
 use Rattle.ep_unroll.proofs.GroundSteps.{says_clauses, says_objective}
 use Rattle.ep_unroll.proofs.unrolling.unroll.Goals as goal
 

@@ -1,9 +1,6 @@
-use Rattle.std.proofs.Common.{◌+◌, ap, length, sym}
-use Rattle.ep_eval.proofs.WalkSteps.{no_runs}
-use Rattle.ep_tree.specs.Solutions.{cell_count}
+use Rattle.ep_unroll.proofs.Words.{◌+◌, ap, length, sym, no_runs, cell_count, cells_value, each_from}
 use Rattle.ep_unroll.proofs.FormValues.{if_ok}
 use Rattle.ep_unroll.proofs.WholeSteps.{cells_parts, matrix_whole, whole_same}
-use Rattle.ep_unroll.specs.Readings.{cells_value, each_from}
 use Rattle.ep_unroll.proofs.wholes.+cells_guarded.Goals as goal
 
 pub returns-in_ok-indices-in-Some : goal.returns-in_ok-indices-in-Some

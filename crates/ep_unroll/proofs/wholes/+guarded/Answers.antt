@@ -1,9 +1,7 @@
-use Rattle.std.proofs.Common.{◌∷◌, ◌++◌, ◌∙◌, ap, length, sym}
+use Rattle.ep_unroll.proofs.Words.{◌∷◌, ◌++◌, ◌∙◌, ap, length, sym, worth, worths}
 use Rattle.ep_unroll.proofs.FormValues.{if_ok}
 use Rattle.ep_unroll.proofs.GrownParts.{have_kept, worths_kept}
 use Rattle.ep_unroll.proofs.WholeSteps.{known_parts, later_terms, matrix_whole, whole_same}
-use Rattle.ep_unroll.specs.Meanings.{worth}
-use Rattle.ep_unroll.specs.PartLists.{worths}
 use Rattle.ep_unroll.proofs.wholes.+guarded.Goals as goal
 
 pub returns-in-Number : goal.returns-in-Number

@@ -1,8 +1,4 @@
-use Rattle.std.proofs.Common.{◌≡◌, ◌++◌, ◌∙◌, Some, ap, arith, length, of_z, sym, to_z, w64}
-use Rattle.std.proofs.lemmas.Int.{ints, to_z-of_z}
-use Rattle.ep_tree.proofs.ViewLemmas.{value_tree-matrix, value_tree-number}
-use Rattle.ep_tree.specs.Values.{single}
-use Rattle.ep_tree.specs.Views.{value_tree}
+use Rattle.ep_unroll.proofs.Words.{◌≡◌, ◌++◌, ◌∙◌, Some, ap, arith, length, of_z, sym, to_z, w64, ints, to_z-of_z, value_tree-matrix, value_tree-number, single, value_tree}
 use Rattle.ep_unroll.proofs.FormValues.{if_ok}
 use Rattle.ep_unroll.proofs.LeftSteps.{values_of_all}
 use Rattle.ep_unroll.proofs.WholeSteps.{matrix_whole, value_parts, whole_same}

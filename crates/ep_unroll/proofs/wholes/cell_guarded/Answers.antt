@@ -1,9 +1,7 @@
-use Rattle.std.proofs.Common.{[], length, refl}
-use Rattle.ep_ground.specs.Nodes.{cell, parts_of}
-use Rattle.ep_ground.specs.Terms.{node_value}
+use Rattle.ep_unroll.proofs.Words.{[], length, refl, cell, node_value, cells_value}
+use Rattle.ep_ground.specs.Nodes.{parts_of}
 use Rattle.ep_unroll.proofs.FormSteps.{none_known}
 use Rattle.ep_unroll.proofs.WholeSteps.{known_kept, put_whole}
-use Rattle.ep_unroll.specs.Readings.{cells_value}
 use Rattle.ep_unroll.proofs.wholes.cell_guarded.Goals as goal
 
 pub put-requires : goal.put-requires

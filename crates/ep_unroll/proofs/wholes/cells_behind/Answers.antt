@@ -1,9 +1,5 @@
-use Rattle.std.proofs.Common.{◌≡◌, ◌∷◌, ◌+◌, ◌∙◌, ap, arith, sym, subst}
-use Rattle.ep_eval.specs.Walking.{IsWalkBehind, before_rest, numbers_left}
-use Rattle.ep_tree.specs.Solutions.{cell_count}
+use Rattle.ep_unroll.proofs.Words.{◌≡◌, ◌∷◌, ◌+◌, ◌∙◌, ap, arith, sym, subst, IsWalkBehind, before_rest, numbers_left, cell_count, cells_value, each_from, worth}
 use Rattle.ep_unroll.proofs.FormValues.{if_both}
-use Rattle.ep_unroll.specs.Readings.{cells_value, each_from}
-use Rattle.ep_unroll.specs.Meanings.{worth}
 use Rattle.ep_unroll.proofs.wholes.cells_behind.Goals as goal
 
 pub cells_from-requires : goal.cells_from-requires

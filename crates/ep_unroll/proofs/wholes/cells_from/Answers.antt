@@ -1,10 +1,5 @@
-use Rattle.std.proofs.Common.{◌≡◌, ◌∷◌, ◌∙◌, length, ap, arith, refl, subst}
-use Rattle.ep_eval.specs.Walking.{IsWalkBehind, before_rest, numbers_left}
-use Rattle.ep_tree.specs.Solutions.{cell_count}
+use Rattle.ep_unroll.proofs.Words.{◌≡◌, ◌∷◌, ◌∙◌, length, ap, arith, refl, subst, IsWalkBehind, before_rest, numbers_left, cell_count, AreTerms, worth, cells_value, each_from, Cells}
 use Rattle.ep_unroll.proofs.WholeSteps.{behind_all, behind_begin, behind_more, cells_cut, cells_none}
-use Rattle.ep_unroll.specs.Meanings.{AreTerms, worth}
-use Rattle.ep_unroll.specs.Readings.{cells_value, each_from}
-use Rattle.ep_unroll.specs.declared.unrolled.Unrolled.{Cells}
 use Rattle.ep_unroll.proofs.wholes.cells_from.Goals as goal
 
 pub loop-number-init : goal.loop-number-init

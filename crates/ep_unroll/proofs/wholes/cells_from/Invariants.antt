@@ -1,9 +1,5 @@
-use Rattle.std.proofs.Common.{◌∷◌, length}
-use Rattle.ep_eval.specs.Walking.{IsWalk, numbers_left}
-use Rattle.ep_tree.specs.Solutions.{cell_count}
+use Rattle.ep_unroll.proofs.Words.{◌∷◌, length, IsWalk, numbers_left, cell_count, AreTerms, worth, cells_value, each_from}
 use Rattle.ep_unroll.proofs.WholeSteps.{Behind}
-use Rattle.ep_unroll.specs.Meanings.{AreTerms, worth}
-use Rattle.ep_unroll.specs.Readings.{cells_value, each_from}
 use Rattle.ep_unroll.proofs.wholes.cells_from.Given as goal
 
 abbrev pub decreases-loop-number : goal.decreases-loop-number

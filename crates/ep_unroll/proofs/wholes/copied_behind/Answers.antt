@@ -1,10 +1,6 @@
-use Rattle.std.proofs.Common.{◌≡◌, ◌∷◌, ◌+◌, ◌∙◌, ℕ, List, ap, drop, subst, sym}
-use Rattle.std.proofs.lemmas.List.{drop_all, drop_more}
+use Rattle.ep_unroll.proofs.Words.{◌≡◌, ◌∷◌, ◌+◌, ◌∙◌, ℕ, List, ap, drop, subst, sym, drop_all, drop_more, AreTerms, HaveTerms, worths, Unrolled}
 use Rattle.ep_unroll.proofs.GrownParts.{have_at}
 use Rattle.ep_unroll.proofs.WholeSteps.{behind_all, behind_begin, behind_more}
-use Rattle.ep_unroll.specs.Meanings.{AreTerms}
-use Rattle.ep_unroll.specs.PartLists.{HaveTerms, worths}
-use Rattle.ep_unroll.specs.declared.unrolled.Unrolled.{Unrolled}
 use Rattle.ep_unroll.proofs.wholes.copied_behind.Goals as goal
 
 pub loop-other-init : goal.loop-other-init

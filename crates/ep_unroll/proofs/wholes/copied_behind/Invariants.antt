@@ -1,7 +1,5 @@
-use Rattle.std.proofs.Common.{◌∷◌, drop}
+use Rattle.ep_unroll.proofs.Words.{◌∷◌, drop, AreTerms, worth, HaveTerms, worths}
 use Rattle.ep_unroll.proofs.WholeSteps.{Behind}
-use Rattle.ep_unroll.specs.Meanings.{AreTerms, worth}
-use Rattle.ep_unroll.specs.PartLists.{HaveTerms, worths}
 use Rattle.ep_unroll.proofs.wholes.copied_behind.Given as goal
 
 abbrev pub invariant-loop-other : goal.invariant-loop-other

@@ -1,8 +1,5 @@
-use Rattle.std.proofs.Common.{◌≡◌, Some, ap, arith, length, of_z, to_z, w64}
-use Rattle.std.proofs.lemmas.Int.{ints, to_z-of_z}
-use Rattle.ep_ground.specs.Nodes.{constant, parts_of}
-use Rattle.ep_ground.specs.Terms.{node_value}
-use Rattle.ep_tree.specs.Values.{single}
+use Rattle.ep_unroll.proofs.Words.{◌≡◌, Some, ap, arith, length, of_z, to_z, w64, ints, to_z-of_z, constant, node_value, single}
+use Rattle.ep_ground.specs.Nodes.{parts_of}
 use Rattle.ep_unroll.proofs.FormSteps.{none_known}
 use Rattle.ep_unroll.proofs.WholeSteps.{known_kept, put_whole}
 use Rattle.ep_unroll.proofs.wholes.number_guarded.Goals as goal

@@ -1,9 +1,6 @@
-use Rattle.std.proofs.Common.{◌≡◌, ◌∷◌, ◌+◌, ◌∙◌, ℕ, List, ap, drop, sym}
-use Rattle.std.proofs.lemmas.List.{drop_all, drop_more}
-use Rattle.ep_tree.specs.declared.values.Value.{Value}
+use Rattle.ep_unroll.proofs.Words.{◌≡◌, ◌∷◌, ◌+◌, ◌∙◌, ℕ, List, ap, drop, sym, drop_all, drop_more, Value, AreTerms}
 use Rattle.ep_unroll.proofs.LeftSteps.{values_of_all}
 use Rattle.ep_unroll.proofs.WholeSteps.{behind_all, behind_begin, behind_more}
-use Rattle.ep_unroll.specs.Meanings.{AreTerms}
 use Rattle.ep_unroll.proofs.wholes.opened_behind.Goals as goal
 
 pub loop-value-init : goal.loop-value-init

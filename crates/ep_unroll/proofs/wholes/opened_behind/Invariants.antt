@@ -1,7 +1,6 @@
-use Rattle.std.proofs.Common.{◌∷◌, drop}
+use Rattle.ep_unroll.proofs.Words.{◌∷◌, drop, AreTerms, worth}
 use Rattle.ep_unroll.proofs.LeftSteps.{values_of_all}
 use Rattle.ep_unroll.proofs.WholeSteps.{Behind}
-use Rattle.ep_unroll.specs.Meanings.{AreTerms, worth}
 use Rattle.ep_unroll.proofs.wholes.opened_behind.Given as goal
 
 abbrev pub invariant-loop-value : goal.invariant-loop-value

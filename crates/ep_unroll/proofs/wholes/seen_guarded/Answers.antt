@@ -1,7 +1,4 @@
-use Rattle.std.proofs.Common.{◌≡◌, ◌∙◌, Some, ap, arith, of_z, sym, to_z, w64}
-use Rattle.std.proofs.lemmas.Int.{ints, to_z-of_z}
-use Rattle.ep_eval.specs.Helds.{held_value, seen_held}
-use Rattle.ep_tree.specs.Values.{single}
+use Rattle.ep_unroll.proofs.Words.{◌≡◌, ◌∙◌, Some, ap, arith, of_z, sym, to_z, w64, ints, to_z-of_z, held_value, seen_held, single}
 use Rattle.ep_unroll.proofs.FormValues.{if_ok}
 use Rattle.ep_unroll.proofs.WholeSteps.{nothing_whole, whole_same}
 use Rattle.ep_unroll.proofs.wholes.seen_guarded.Goals as goal

@@ -1,6 +1,5 @@
-use Rattle.std.proofs.Common.{arith}
+use Rattle.ep_unroll.proofs.Words.{arith, worth}
 use Rattle.ep_unroll.proofs.WholeSteps.{term_whole}
-use Rattle.ep_unroll.specs.Meanings.{worth}
 use Rattle.ep_unroll.proofs.wholes.term_guarded.Goals as goal
 
 pub whole_term-requires : goal.whole_term-requires

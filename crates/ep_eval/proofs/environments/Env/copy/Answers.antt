@@ -1,10 +1,4 @@
-use Rattle.std.proofs.Common.{◌≡◌, ◌∙◌, ◌≤◌, Some, length, sym, ap, subst, rules}
-use Rattle.std.proofs.lemmas.Bool.{false≢true}
-use Rattle.std.specs.Prelude.{option_map, slice_get}
-use Rattle.ep_eval.specs.Bounds.{bound_of}
-use Rattle.ep_eval.specs.EnvInside.{known_of}
-use Rattle.ep_eval.specs.Known.{KnownNames, env_of}
-use Rattle.ep_base.specs.declared.names.Name.{Name}
+use Rattle.ep_eval.proofs.Words.{◌≡◌, ◌∙◌, ◌≤◌, Some, length, sym, ap, subst, rules, false≢true, option_map, slice_get, bound_of, known_of, KnownNames, env_of, Name}
 use Rattle.ep_eval.specs.declared.environments.Meaning.{Meaning}
 use Rattle.ep_eval.proofs.EnvCopies.{all_copied, none_copied, one_copied}
 use Rattle.ep_eval.proofs.environments.Env.copy.Goals.{in-Some+in_ok-put_copy, in_default}

@@ -1,5 +1,4 @@
-use Rattle.std.proofs.Common.{◌≡◌, take}
-use Rattle.ep_eval.specs.Known.{env_of}
+use Rattle.ep_eval.proofs.Words.{◌≡◌, take, env_of}
 use Rattle.ep_eval.proofs.EnvCopies.{IsCopied}
 use Rattle.ep_eval.proofs.environments.Env.copy.Given as goal
 

@@ -1,7 +1,4 @@
-use Rattle.ep_tree.specs.Environments.{HasAscendingDomain}
-use Rattle.ep_tree.specs.TypedValues.{IsTypedBound}
-use Rattle.ep_eval.specs.Bounds.{bound_of}
-use Rattle.ep_eval.specs.Known.{StandsUnderName}
+use Rattle.ep_eval.proofs.Words.{HasAscendingDomain, IsTypedBound, bound_of, StandsUnderName}
 use Rattle.ep_eval.proofs.environments.Env.name_cells.Goals as goal
 
 pub put-requires-clause-typed : goal.put-requires-clause-typed

@@ -1,10 +1,4 @@
-use Rattle.std.proofs.Common.{subst}
-use Rattle.ep_base.proofs.RunSteps.{numbers_ascend}
-use Rattle.ep_base.specs.Runs.{IsAscending}
-use Rattle.ep_tree.specs.Environments.{HasAscendingDomain}
-use Rattle.ep_tree.specs.TypedValues.{IsTypedBound}
-use Rattle.ep_eval.specs.Bounds.{bound_of}
-use Rattle.ep_eval.specs.Known.{StandsUnderName}
+use Rattle.ep_eval.proofs.Words.{subst, numbers_ascend, IsAscending, HasAscendingDomain, IsTypedBound, bound_of, StandsUnderName}
 use Rattle.ep_eval.proofs.environments.Env.name_domain.Goals as goal
 
 pub put-requires-clause-typed : goal.put-requires-clause-typed

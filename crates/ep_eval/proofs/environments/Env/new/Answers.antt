@@ -1,9 +1,4 @@
-use Rattle.std.proofs.Common.{sym, subst}
-use Rattle.std.specs.Prelude.{bytes_eq}
-use Rattle.std.specs.Map.{lookup}
-use Rattle.ep_tree.specs.Environments.{HasAscendingDomain}
-use Rattle.ep_tree.specs.TypedValues.{IsTypedBound}
-use Rattle.ep_eval.specs.Known.{StandsUnderName}
+use Rattle.ep_eval.proofs.Words.{sym, subst, bytes_eq, lookup, HasAscendingDomain, IsTypedBound, StandsUnderName}
 use Rattle.ep_eval.proofs.KnownNames.{entries_env}
 use Rattle.ep_eval.proofs.environments.Env.new.Goals as goal
 

@@ -1,9 +1,4 @@
-use Rattle.std.proofs.Common.{◌≡◌, sym, subst, ◌∙◌, OnOk}
-use Rattle.ep_tree.specs.Environments.{HasAscendingDomain}
-use Rattle.ep_tree.specs.Names.{put}
-use Rattle.ep_tree.specs.TypedValues.{IsTypedBound}
-use Rattle.ep_eval.specs.Bounds.{bound_of, entry_bound}
-use Rattle.ep_eval.specs.Known.{StandsUnderName, env_of}
+use Rattle.ep_eval.proofs.Words.{◌≡◌, sym, subst, ◌∙◌, OnOk, HasAscendingDomain, put, IsTypedBound, bound_of, entry_bound, StandsUnderName, env_of}
 use Rattle.ep_eval.proofs.environments.Env.set.Goals as goal
 
 pub put-requires-clause-typed : goal.put-requires-clause-typed

@@ -1,4 +1,4 @@
-use Rattle.std.proofs.Common.{refl}
+use Rattle.ep_size.proofs.Words.{refl}
 use Rattle.ep_size.proofs.FoldSteps.{chooses_none}
 use Rattle.ep_size.proofs.folds.Chosen.new.Goals as goal
 

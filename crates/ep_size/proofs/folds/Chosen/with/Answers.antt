@@ -1,9 +1,5 @@
-use Rattle.std.proofs.Common.{◌≡◌, ◌+◌, ◌*◌, true, false, not, refl, ap, ◌∙◌}
-use Rattle.std.specs.Prelude.{Bool}
-use Rattle.ep_base.specs.Intervals.{width}
+use Rattle.ep_size.proofs.Words.{◌≡◌, ◌+◌, ◌*◌, true, false, not, refl, ap, ◌∙◌, Bool, width, interval_of, capped}
 use Rattle.ep_size.proofs.FoldSteps.{chooses_first, chooses_next}
-use Rattle.ep_numbers.specs.Spans.{interval_of}
-use Rattle.ep_size.specs.Totals.{capped}
 use Rattle.ep_size.proofs.folds.Chosen.with.Goals as goal
 
 not_true : (b : Bool) → not b ≡ true → b ≡ false

@@ -1,6 +1,4 @@
-use Rattle.std.proofs.Common.{[], refl, subst, sym}
-use Rattle.ep_size.specs.Folds.{Folds, greater, lesser}
-use Rattle.ep_size.specs.declared.folds.Folding.TheVariants.{Sum, Product, Truth, Least, Greatest}
+use Rattle.ep_size.proofs.Words.{[], refl, subst, sym, Folds, greater, lesser, Sum, Product, Truth, Least, Greatest}
 use Rattle.ep_size.proofs.folds.Folding.new.Goals as goal
 
 pub returns-in-Sum : goal.returns-in-Sum

@@ -1,8 +1,5 @@
-use Rattle.std.proofs.Common.{subst, ap}
-use Rattle.ep_tree.specs.Reach.{wide_span}
+use Rattle.ep_size.proofs.Words.{subst, ap, wide_span, Gives, Folds}
 use Rattle.ep_size.proofs.FoldSteps.{greatest_gives, least_gives, product_gives, sum_gives, truth_gives}
-use Rattle.ep_size.specs.Finishing.{Gives}
-use Rattle.ep_size.specs.Folds.{Folds}
 use Rattle.ep_size.proofs.folds.Folding.span.Goals as goal
 
 pub returns-in-Sum : goal.returns-in-Sum

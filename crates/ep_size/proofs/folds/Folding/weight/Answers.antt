@@ -1,7 +1,5 @@
-use Rattle.std.proofs.Common.{subst, ap, ◌∙◌, ◌+◌}
+use Rattle.ep_size.proofs.Words.{subst, ap, ◌∙◌, ◌+◌, Folds, capped}
 use Rattle.ep_size.proofs.FoldSteps.{greatest_weighs, least_weighs, product_weighs, sum_weighs, truth_weighs}
-use Rattle.ep_size.specs.Folds.{Folds}
-use Rattle.ep_size.specs.Totals.{capped}
 use Rattle.ep_size.proofs.folds.Folding.weight.Goals as goal
 
 pub returns-in-Sum-clause-weight : goal.returns-in-Sum-clause-weight

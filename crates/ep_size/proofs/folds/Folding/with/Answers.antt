@@ -1,8 +1,5 @@
-use Rattle.std.proofs.Common.{subst, ap, arith, ◌∙◌, ◌+◌}
+use Rattle.ep_size.proofs.Words.{subst, ap, arith, ◌∙◌, ◌+◌, plain_span, Folds, capped}
 use Rattle.ep_size.proofs.FoldSteps.{greatest_adds, least_adds, product_adds, product_refuses, sum_adds, truth_adds}
-use Rattle.ep_size.specs.Extents.{plain_span}
-use Rattle.ep_size.specs.Folds.{Folds}
-use Rattle.ep_size.specs.Totals.{capped}
 use Rattle.ep_size.proofs.folds.Folding.with.Goals as goal
 
 pub returns-in-Sum-clause-added : goal.returns-in-Sum-clause-added

@@ -1,5 +1,4 @@
-use Rattle.std.proofs.Common.{refl}
-use Rattle.ep_base.specs.Intervals.{product_interval}
+use Rattle.ep_size.proofs.Words.{refl, product_interval}
 use Rattle.ep_size.proofs.FoldSteps.{multiplies_none}
 use Rattle.ep_size.proofs.folds.Multiplied.new.Goals as goal
 

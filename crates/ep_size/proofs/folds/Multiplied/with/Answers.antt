@@ -1,9 +1,5 @@
-use Rattle.std.proofs.Common.{sym, ap, ◌∙◌}
-use Rattle.std.proofs.lemmas.Result.{err_from_is_err_and}
-use Rattle.ep_base.specs.Intervals.{product_interval}
+use Rattle.ep_size.proofs.Words.{sym, ap, ◌∙◌, err_from_is_err_and, product_interval, is_far_reach, wide_interval}
 use Rattle.ep_size.proofs.FoldSteps.{multiplies_more, multiplies_same, product_refused}
-use Rattle.ep_size.specs.Folds.{is_far_reach}
-use Rattle.ep_numbers.specs.Spans.{wide_interval}
 use Rattle.ep_size.proofs.folds.Multiplied.with.Goals as goal
 
 pub returns-in_err-whole-clause-refused : goal.returns-in_err-whole-clause-refused

@@ -1,4 +1,4 @@
-use Rattle.std.proofs.Common.{refl, arith}
+use Rattle.ep_size.proofs.Words.{refl, arith}
 use Rattle.ep_size.proofs.HullSteps.{hulls_first, hulls_next}
 use Rattle.ep_size.proofs.hulls.Hulled.add.Goals as goal
 

@@ -1,4 +1,4 @@
-use Rattle.std.proofs.Common.{refl}
+use Rattle.ep_size.proofs.Words.{refl}
 use Rattle.ep_size.proofs.HullSteps.{hulls_none}
 use Rattle.ep_size.proofs.hulls.Hulled.new.Goals as goal
 

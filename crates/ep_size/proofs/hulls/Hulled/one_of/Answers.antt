@@ -1,7 +1,5 @@
-use Rattle.std.proofs.Common.{subst, ap, ◌∙◌}
-use Rattle.ep_tree.specs.Reach.{wide_span}
+use Rattle.ep_size.proofs.Words.{subst, ap, ◌∙◌, wide_span, Gives}
 use Rattle.ep_size.proofs.HullSteps.{bool_read, int_read}
-use Rattle.ep_size.specs.Finishing.{Gives}
 use Rattle.ep_size.proofs.hulls.Hulled.one_of.Goals as goal
 
 pub returns-in-Bool : goal.returns-in-Bool

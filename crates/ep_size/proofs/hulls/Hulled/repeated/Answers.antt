@@ -1,4 +1,4 @@
-use Rattle.std.proofs.Common.{refl}
+use Rattle.ep_size.proofs.Words.{refl}
 use Rattle.ep_size.proofs.HullSteps.{hulls_no, hulls_same}
 use Rattle.ep_size.proofs.hulls.Hulled.repeated.Goals as goal
 

@@ -1,7 +1,5 @@
-use Rattle.std.proofs.Common.{subst, sym, ap}
-use Rattle.ep_tree.specs.Reach.{read_span}
+use Rattle.ep_size.proofs.Words.{subst, sym, ap, read_span, Gives}
 use Rattle.ep_size.proofs.HullSteps.{cell_read, other_read}
-use Rattle.ep_size.specs.Finishing.{Gives}
 use Rattle.ep_size.proofs.hulls.Hulled.span.Goals as goal
 
 pub returns-then-not-of_cell : goal.returns-then-not-of_cell

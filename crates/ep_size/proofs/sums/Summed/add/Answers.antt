@@ -1,7 +1,5 @@
-use Rattle.std.proofs.Common.{arith, refl, SFits, w64}
-use Rattle.std.proofs.lemmas.Int.{ints}
+use Rattle.ep_size.proofs.Words.{arith, refl, SFits, w64, ints, plain_span}
 use Rattle.ep_size.proofs.SumSteps.{added, high_fits, high_own, low_fits, low_own, near_own, sums_decided, sums_fixed}
-use Rattle.ep_size.specs.Extents.{plain_span}
 use Rattle.ep_size.proofs.sums.Summed.add.Goals as goal
 
 pub returns-then-span : goal.returns-then-span

@@ -1,7 +1,4 @@
-use Rattle.std.proofs.Common.{[], ◌∷◌, ◌++◌, subst, sym}
-use Rattle.ep_tree.specs.Reach.{signed_span}
-use Rattle.ep_size.specs.Extents.{plain_span}
-use Rattle.ep_size.specs.Sums.{Sums}
+use Rattle.ep_size.proofs.Words.{[], ◌∷◌, ◌++◌, subst, sym, signed_span, plain_span, Sums}
 use Rattle.ep_size.proofs.sums.Summed.add_signed.Goals as goal
 
 pub returns-then-plus : goal.returns-then-plus

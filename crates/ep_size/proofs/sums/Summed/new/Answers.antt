@@ -1,4 +1,4 @@
-use Rattle.std.proofs.Common.{refl}
+use Rattle.ep_size.proofs.Words.{refl}
 use Rattle.ep_size.proofs.SumSteps.{sums_none}
 use Rattle.ep_size.proofs.sums.Summed.new.Goals as goal
 

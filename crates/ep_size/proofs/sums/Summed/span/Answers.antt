@@ -1,6 +1,4 @@
-use Rattle.std.proofs.Common.{subst, ap, ◌∙◌}
-use Rattle.ep_tree.specs.Reach.{wide_span}
-use Rattle.ep_size.specs.Finishing.{Gives}
+use Rattle.ep_size.proofs.Words.{subst, ap, ◌∙◌, wide_span, Gives}
 use Rattle.ep_size.proofs.SumSteps.{own_ends, sum_is}
 use Rattle.ep_size.proofs.sums.Summed.span.Goals as goal
 

@@ -1,10 +1,5 @@
-use Rattle.std.proofs.Common.{arith, refl, SFits, w64}
-use Rattle.std.specs.Prelude.{neg_ℤ}
-use Rattle.std.proofs.lemmas.Int.{ints}
-use Rattle.ep_base.specs.Intervals.{negated}
-use Rattle.ep_tree.specs.Reach.{negated_span}
+use Rattle.ep_size.proofs.Words.{arith, refl, SFits, w64, neg_ℤ, ints, negated, negated_span, plain_span}
 use Rattle.ep_size.proofs.SumSteps.{high_fits, high_own, low_fits, low_own, near_opposite, sums_decided, sums_fixed, taken}
-use Rattle.ep_size.specs.Extents.{plain_span}
 use Rattle.ep_size.proofs.sums.Summed.subtract.Goals as goal
 
 pub returns-then-span : goal.returns-then-span

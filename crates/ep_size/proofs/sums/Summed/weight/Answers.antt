@@ -1,6 +1,4 @@
-use Rattle.std.proofs.Common.{◌∙◌, ap}
-use Rattle.ep_base.specs.Intervals.{width}
-use Rattle.ep_size.specs.Totals.{capped}
+use Rattle.ep_size.proofs.Words.{◌∙◌, ap, width, capped}
 use Rattle.ep_size.proofs.SumSteps.{own_ends, weight_is}
 use Rattle.ep_size.proofs.sums.Summed.weight.Goals as goal
 

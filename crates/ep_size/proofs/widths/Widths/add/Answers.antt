@@ -1,4 +1,4 @@
-use Rattle.std.proofs.Common.{arith}
+use Rattle.ep_size.proofs.Words.{arith}
 use Rattle.ep_size.proofs.WidthSteps.{widens_more}
 use Rattle.ep_size.proofs.widths.Widths.add.Goals as goal
 
