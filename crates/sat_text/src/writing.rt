@@ -120,7 +120,7 @@ fn put_clauses(out: &mut Vec<u8>, clauses: &ClauseList) -> Result<(), Memory>
 fn ids(alloc: Global, events: &EventList) -> Result<Vec<u64>, Memory>
     ensures ids { IfOk result (λ made. made.items ≡ event_ids events.now) }
     ensures all { IfOk result (λ made. length made.items ≡ length events.now) }
-    ensures few { length events.now < 2 ^ 58 }
+    ensures few { length events.now < 2 ^ 63 }
 {
     let mut given_id = 1;
     let mut step_id = count_givens(events) as u64 + 1;
@@ -143,7 +143,7 @@ fn ids(alloc: Global, events: &EventList) -> Result<Vec<u64>, Memory>
 /// How many events are givens.
 fn count_givens(events: &EventList) -> usize
     ensures value { result ≡ count_by is_given events.now }
-    ensures few { result < 2 ^ 58 }
+    ensures few { result < 2 ^ 63 }
 {
     let mut count = 0;
     for place in 0..events.len() {
@@ -214,6 +214,9 @@ fn put_steps(out: &mut Vec<u8>, ids: &[u64], events: &EventList) -> Result<(), M
     Ok(())
 }
 
+/// The room in bytes that a step's line is given at the start. Where memory has it for all events, ids have at most 18 digits.
+const STEP_ROOM: usize = 32;
+
 /// The lines of the steps of a log.
 fn log_bytes(alloc: Global, log: &Log) -> Result<Vec<u8>, Memory>
     ensures text { IfOk result (λ text. text.items ≡ log_text log.now.events) }
@@ -222,6 +225,7 @@ fn log_bytes(alloc: Global, log: &Log) -> Result<Vec<u8>, Memory>
     let events = log.events();
     let ids = ids(alloc, events)?;
     let mut out = Vec::new(alloc);
+    out.reserve(events.len().saturating_mul(STEP_ROOM))?;
     put_steps(&mut out, &ids, events)?;
     Ok(out)
 }
@@ -237,8 +241,9 @@ pub fn write_log(alloc: Global, log: &Log) -> Result<Vec<u8>, Memory>
     log_bytes(alloc, log)
 }
 
-/// The most clauses that a header can state. Nobody has the memory for so many.
-const MOST_CLAUSES: u64 = 999_999_999_999_999_999;
+/// The room in bytes that a clause's line is given at the start. Where memory has it for all clauses, a header can state how many
+/// these are: it has at most 18 digits.
+const CLAUSE_ROOM: usize = 16;
 
 fn cnf_bytes(alloc: Global, f: &Formula, notes: &[CellNote], added: u64) -> Result<Vec<u8>, Memory>
     ensures text { IfOk result
@@ -247,10 +252,8 @@ fn cnf_bytes(alloc: Global, f: &Formula, notes: &[CellNote], added: u64) -> Resu
     ensures variables { IfOk result (λ _. NamesVariables (map plain_note notes.now)) }
 {
     let clauses = f.clauses();
-    if clauses.len() as u64 > MOST_CLAUSES {
-        return Err(Memory);
-    }
     let mut out = Vec::new(alloc);
+    out.reserve(clauses.len().saturating_mul(CLAUSE_ROOM))?;
     put_notes(&mut out, notes)?;
     put_added(&mut out, added)?;
     put_header(&mut out, f.vars(), clauses.len())?;
