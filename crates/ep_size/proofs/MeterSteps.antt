@@ -125,6 +125,10 @@ told_same {P} mode a b ms ns h t =
 pub none_passed : (o : Option LimitName) (b : Bool) → b ≡ is_some o → b ≡ false → o ≡ None
 none_passed = walks.none_passed
 
+-- a limit is passed before anything is met
+pub stopped : {Q : Type 0} (mode : Mode) (a : Totals) (ms : List Met) → is_some a.meter.passed ≡ true → Told mode a a ms Q
+stopped mode a ms some = walks.told_stops {P = Unit {0}} (joins mode) a.meter a.meter [] ms (walks.told_none (joins mode) a.meter tt) some
+
 -- a limit is passed by the first parts of a node
 pub node_stops : {P Q : Type 0} (mode : Mode) (a b : Totals) (whole : List Met) (m : Met) (ms ns : List Met) → whole ≡ m ∷ (ms ++ ns)
     → Told mode a b ms P → is_some b.meter.passed ≡ true → Told mode a b whole Q

@@ -10,7 +10,7 @@ ghost use Rattle.ep_size.specs.Meters.{Told};
 use super::extending::extent_of;
 use super::totals::Totals;
 use ep_base::Memory;
-use ep_eval::{Around, Env, Scope};
+use ep_eval::{Around, Env, Scope, is_over};
 use ep_tree::{Expr, Objective};
 use std::alloc::Global;
 
@@ -19,6 +19,9 @@ pub fn measure_one(alloc: Global, env: &Env, totals: &mut Totals, e: &Expr) -> R
     ensures { IfOk result (λ _. Told env.now.mode totals.old totals.new
         (met env.now.mode (env_of env.now) (expr_tree e.now)) (Unit {0})) }
 {
+    if is_over(&totals.meter) {
+        return Ok(());
+    }
     let scope = Scope {
         alloc,
         env,

@@ -49,7 +49,7 @@ fn first_numbers(alloc: Global, count: usize) -> Result<Vec<i64>, SizeError>
     ensures numbers { IfOk result (λ numbers. numbers.items ≡ counting (pos 1) count) }
     ensures memory { IfErr result (λ e. e ≡ error.Memory) }
 {
-    if count >= 5_000_000 {
+    if count > 5_000_000 {
         return Err(SizeError::Memory);
     }
     let mut numbers = Vec::with_capacity(alloc, count)?;

@@ -49,8 +49,7 @@ fn measured(alloc: Global, instance: &Instance) -> Result<Totals, SizeError>
 /// Measures an instance. Where one of the limits is passed, one that is passed is named, the limit
 /// of weight only where no other is.
 ///
-/// One form isn't measured yet, and ends as want of memory; the project's README names it. Each
-/// instance of an expression costs its text times its height, since each level asks anew whether a
+/// Each instance of an expression costs its text times its height, since each level asks anew whether a
 /// decision variable stands below it; a form over a matrix lists what is known of its scalars.
 pub fn measure(alloc: Global, instance: &Instance) -> Result<Measures, SizeError>
     requires { IsClosed (plain_instance instance.now) }

@@ -16,7 +16,7 @@ use super::intervals::near;
 use super::totals::{MOST_TOLD, told};
 use ep_numbers::{Span as Ends, WideSpan, negated, product, widened};
 
-/// WeighsNodes a node.
+/// Adds the weight of a node.
 pub fn weigh(total: &mut u64, weight: u64)
     requires { weight ≤ MOST_TOLD }
     ensures { (own : ℕ) → weight ≡ capped own → Added total.old total.new own }
