@@ -149,6 +149,11 @@ shown-once one texts words held a b g h =
 abbrev pub ShownOnce : List (List ℕ) → Type 0
 ShownOnce words = (held : Held) (a b : Outcome Task) → Show words held a → Show words held b → a ≡ b
 
+-- texts that come to one thing each
+pub once-of : OneJob → OneAnswer TextFile.Model → OneAnswer TextFile.Params → OneAnswer TextFile.Solution → OneFormula → OneProof → OneComing → (words : List (List ℕ)) → ShownOnce words
+once-of job model params solution formula proof opb words =
+    shown-once job (record { model = model; params = params; solution = solution; formula = formula; proof = proof; opb = opb }) words
+
 asked-not-refused : (words : List (List ℕ)) → ShownOnce words → (held : Held) (task : Task) (r : Refusal) → Ask words held task → Refuse words held r → ⊥
 asked-not-refused words once held task r ask refuse =
     let e = once held (Ok task) (Err refuse.0) ask refuse.1 in absurd cc
