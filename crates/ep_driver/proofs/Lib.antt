@@ -23,3 +23,4 @@ mod Running
 mod Outcomes
 mod Noted
 mod Kept
+mod Words

@@ -1,7 +1,4 @@
-use Rattle.std.proofs.Common.{◌≡◌, ◌∙◌, ℕ, List, Err, inl, inr, ap, subst}
-use Rattle.ep_base.specs.Outside.{Rose, TookPart, with_more}
-use Rattle.ep_driver.specs.Outputs.{HasOutput}
-use Rattle.ep_driver.specs.Puts.{TookOnWant}
+use Rattle.ep_driver.proofs.Words.{◌≡◌, ◌∙◌, ℕ, List, Err, inl, inr, ap, subst, Rose, TookPart, with_more, HasOutput, TookOnWant}
 use Rattle.ep_driver.proofs.Budgets.{below-said, unforced-said}
 use Rattle.ep_driver.proofs.Certified.{ends-verified}
 use Rattle.ep_driver.proofs.Files.{formula-stands, generated-stands, log-stands}
