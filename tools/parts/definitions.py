@@ -129,6 +129,11 @@ class Definitions:
             path = self.passed[path]
         return self.files.get(path)
 
+    def used_by(self, file):
+        """The files, as paths from the root, that a file's use lines name."""
+        used = {self.target(path) for path, _ in file.names.values()} | {self.target(path) for path in file.aliases.values()}
+        return {f"crates/{it.crate}/{it.path}" for it in used if it}
+
     def means(self, words, names, aliases, own):
         """What words cite: files, each with a name in it."""
         for word in words:

@@ -55,6 +55,8 @@ class Believe(Case):
         self.assertIn("| `crates/one/specs/Words.antt` | What words say: a number | 1 | 3 |", self.page())
         self.assertIn("| `crates/two/specs/Numbers.antt` | Numbers | 1 | 4 |", self.page())
         self.assertIn("2 definitions in 2 files, 7 lines with their comments.", self.page())
+        # a file stands behind those that it uses
+        self.assertLess(self.page().index("two/specs/Numbers.antt"), self.page().index("one/specs/Words.antt"))
         # what the promise cites isn't told again, and what nobody cites never
         self.assertIn("| `crates/one/specs/Words.antt` | What words say: a number | 1 | 4 |", self.page())
         self.assertIn("1 definitions in 1 files, 4 lines with their comments.", self.page())
