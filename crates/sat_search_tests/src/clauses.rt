@@ -212,6 +212,7 @@ fn is_send_and_sync<T: Send + Sync>() {}
 fn the_laws_can_be_called() {
     is_send_and_sync::<Lit>();
     is_send_and_sync::<Clause>();
+    is_send_and_sync::<ClauseList>();
     is_send_and_sync::<Formula>();
     is_send_and_sync::<CellNote>();
     is_send_and_sync::<EventList>();
