@@ -1,5 +1,5 @@
 -- Which literals are true, as the kept signs and as a list.
-use Rattle.std.proofs.Common.{◌≡◌, ℕ, ◌+◌, ◌<◌, Bool, true, false, cond, not, IsTrue, ◌&&◌, ◌||◌, eqb, List, [], ◌∷◌, ◌++◌, length, map, take, drop, get_or, Option, Some, None, refl, sym, ap, subst, ◌∙◌, arith, inl, inr, ◌⊎◌}
+use Rattle.std.proofs.Common.{◌≡◌, ℕ, ◌+◌, ◌*◌, ◌<◌, Bool, true, false, cond, not, IsTrue, ◌&&◌, ◌||◌, eqb, List, [], ◌∷◌, ◌++◌, length, map, take, drop, get_or, refl, sym, ap, subst, ◌∙◌, arith, inl, inr, ◌⊎◌}
 use Rattle.std.proofs.lemmas.Bool.{eqb-true, or_left, or_right}
 use Rattle.std.proofs.lemmas.Bool.Decides.{nat_tests}
 use Rattle.std.specs.List.{list_any}
@@ -7,9 +7,13 @@ use Rattle.std.proofs.lemmas.List.{take-append-drop, take_more}
 use Rattle.std.proofs.Math.Seq.{drop-cons}
 use Rattle.std.proofs.lemmas.List.Folds.{list_any-append}
 use Rattle.std.proofs.Math.Bool.{and-false}
-use Rattle.cnf_core.specs.Literal.{Literal, negation, same_sign, same_literal, is_among}
+use Rattle.cnf_core.specs.Literal.{Literal, negation, code_of, same_sign, same_literal, is_among}
 use Rattle.cnf_core.specs.Reading.{is_false, has_contradiction}
-use Rattle.log_check.specs.Kept.{is_sign, KeepsTrues, MakesTrue}
+use Rattle.log_check.specs.Kept.{KeepsTrues, MakesTrue}
+
+cond_or : (a b : Bool) → cond a true b ≡ (a || b)
+cond_or true b = refl
+cond_or false b = refl
 
 pub bool_cases : (b : Bool) → (b ≡ true) ⊎ (b ≡ false)
 bool_cases true = inl refl
@@ -38,6 +42,10 @@ and_parts false b e = absurd cc
 and_both : (a b : Bool) → a ≡ true → b ≡ true → (a && b) ≡ true
 and_both true b e f = f
 and_both false b e f = absurd cc
+
+and_true : (b : Bool) → (b && true) ≡ b
+and_true true = refl
+and_true false = refl
 
 not_not : (a : Bool) → not (not a) ≡ a
 not_not true = refl
@@ -92,13 +100,6 @@ pub keeps_again : (signs : List Literal) (xs : List Literal) (l : Literal) → i
 keeps_again signs xs l there kept v positive =
     let q : Literal = record { var = v; positive = positive } in
     kept v positive ∙ or_same (same_literal q l) (is_among xs q) (λ e. subst (λ (x : Literal). is_among xs x ≡ true) (sym (same_is q l e)) there)
-
-pub signs_differ : (o : Option Bool) (b : Bool) → is_sign o b ≡ true → is_sign o (not b) ≡ false
-signs_differ None b e = absurd cc
-signs_differ (Some true) true e = refl
-signs_differ (Some false) true e = absurd cc
-signs_differ (Some true) false e = absurd cc
-signs_differ (Some false) false e = refl
 
 -- no literal is kept together with its negation
 abbrev pub IsConsistent : List Literal → Type 0
@@ -184,19 +185,47 @@ keeps_more signs clause k x n lt is n-is made =
 pub made_open : (old : List Literal) (l : Literal) (done : Bool) → done ≡ not (is_among old (negation l)) → done ≡ true → is_among old (negation l) ≡ false
 made_open old l done made e = sym (not_not (is_among old (negation l))) ∙ ap not (sym made ∙ e)
 
--- where the last literal is taken out and its variable has no sign any more, a sign that is kept is that of a literal that is left
-pub left_signs : (old new : ℕ → Option Bool) (before left : List Literal) (l : Literal) → before ≡ left ++ l ∷ []
-    → ((v : ℕ) (positive : Bool) → is_sign (old v) positive ≡ true → is_among before (record { var = v; positive = positive }) ≡ true)
-    → ((v : ℕ) → new v ≡ cond (eqb l.var v) None (old v))
-    → (v : ℕ) (positive : Bool) → is_sign (new v) positive ≡ true → is_among left (record { var = v; positive = positive }) ≡ true
-left_signs old new before left l cut among next v positive e =
-    elim (bool_cases (eqb l.var v)) [
-      | inl s ↦ absurd (let none : new v ≡ None = next v ∙ rw s refl in let no : is_sign None positive ≡ true = subst (λ (o : Option Bool). is_sign o positive ≡ true) none e in cc)
+not_both : (v w : ℕ) → eqb (2 * v + 1) (2 * w + 0) ≡ false
+not_both v w = grind (arith, nat_tests)
+
+not_both_turned : (v w : ℕ) → eqb (2 * v + 0) (2 * w + 1) ≡ false
+not_both_turned v w = grind (arith, nat_tests)
+
+one_half : (v w : ℕ) → eqb (2 * v + 1) (2 * w + 1) ≡ eqb w v
+one_half v w = grind (arith, nat_tests)
+
+one_double : (v w : ℕ) → eqb (2 * v + 0) (2 * w + 0) ≡ eqb w v
+one_double v w = grind (arith, nat_tests)
+
+-- a literal has the number of another one's negation exactly where its negation is that one
+signed_code : (v w : ℕ) (p r : Bool) → eqb (code_of (record { var = v; positive = not p })) (code_of (record { var = w; positive = r })) ≡ same_literal (record { var = w; positive = not r }) (record { var = v; positive = p })
+signed_code v w true true = not_both v w ∙ sym (and-false (eqb w v))
+signed_code v w true false = one_half v w ∙ sym (and_true (eqb w v))
+signed_code v w false true = one_double v w ∙ sym (and_true (eqb w v))
+signed_code v w false false = not_both_turned v w ∙ sym (and-false (eqb w v))
+
+pub code_negated : (l q : Literal) → eqb (code_of (negation l)) (code_of q) ≡ same_literal (negation q) l
+code_negated l q = signed_code l.var q.var l.positive q.positive
+
+-- what a table of the false literals is when one more is true
+pub more_falses : (old new : ℕ → Bool) (trues : List Literal) (l : Literal)
+    → ((q : Literal) → old (code_of q) ≡ is_among trues (negation q))
+    → ((n : ℕ) → new n ≡ cond (eqb (code_of (negation l)) n) true (old n))
+    → (q : Literal) → new (code_of q) ≡ is_among (trues ++ l ∷ []) (negation q)
+more_falses old new trues l falses next q =
+    next (code_of q) ∙ rw (code_negated l q) (cond_or (same_literal (negation q) l) (old (code_of q)) ∙ ap (λ b. same_literal (negation q) l || b) (falses q)) ∙ sym (among_push trues l (negation q))
+
+-- where the last literal is taken out and its negation isn't false any more, a literal that is still false is the negation of one that is left
+pub left_falses : (old new : ℕ → Bool) (before left : List Literal) (l : Literal) → before ≡ left ++ l ∷ []
+    → ((q : Literal) → old (code_of q) ≡ true → is_among before (negation q) ≡ true)
+    → ((n : ℕ) → new n ≡ cond (eqb (code_of (negation l)) n) false (old n))
+    → (q : Literal) → new (code_of q) ≡ true → is_among left (negation q) ≡ true
+left_falses old new before left l cut among next q e =
+    elim (bool_cases (eqb (code_of (negation l)) (code_of q))) [
+      | inl s ↦ absurd (let none : new (code_of q) ≡ false = next (code_of q) ∙ rw s refl in let no : true ≡ false = sym e ∙ none in cc)
       | inr s ↦
-          let q : Literal = record { var = v; positive = positive } in
-          let same : new v ≡ old v = next v ∙ rw s refl in
-          let there : is_among (l ∷ left) q ≡ true = sym (among_push left l q) ∙ subst (λ (xs : List Literal). is_among xs q ≡ true) cut (among v positive (subst (λ (o : Option Bool). is_sign o positive ≡ true) same e)) in
-          let turned : eqb v l.var ≡ false = grind (arith, nat_tests) in
-          let other : same_literal q l ≡ false = rw turned refl in
+          let same : new (code_of q) ≡ old (code_of q) = next (code_of q) ∙ rw s refl in
+          let there : is_among (l ∷ left) (negation q) ≡ true = sym (among_push left l (negation q)) ∙ subst (λ (xs : List Literal). is_among xs (negation q) ≡ true) cut (among q (sym same ∙ e)) in
+          let other : same_literal (negation q) l ≡ false = sym (code_negated l q) ∙ s in
           rw other at there
     ]

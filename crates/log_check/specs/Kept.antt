@@ -1,6 +1,6 @@
 -- What the check keeps as it goes, against the lists that the verdict speaks of.
-use Rattle.std.specs.Prelude.{◌≡◌, ℕ, Bool, true, false, not, IsTrue, ◌&&◌, List, [], ◌∷◌, Option, Some, None}
-use Rattle.cnf_core.specs.Literal.{Literal, negation, same_sign, is_among}
+use Rattle.std.specs.Prelude.{◌≡◌, ℕ, Bool, true, not, IsTrue, ◌&&◌, List, [], ◌∷◌}
+use Rattle.cnf_core.specs.Literal.{Literal, negation, is_among}
 use Rattle.cnf_core.specs.Reading.{is_shown_by}
 use Rattle.cnf_core.specs.Lines.{ProofLine, add, delete}
 use Rattle.log_check.specs.Lives.{clause_at, life_of}
@@ -8,11 +8,6 @@ use Rattle.log_check.specs.Verdict.{Live, live_clause, hinted_clauses}
 use Rattle.log_check.specs.declared.calendar.Lives.{Lives}
 use Rattle.log_check.specs.declared.reading.Remaining.{Remaining}
 use Rattle.log_check.specs.declared.reading.Remaining.TheVariants.{Nothing, One, More}
-
--- whether a kept sign is this one
-abbrev pub is_sign : Option Bool → Bool → Bool
-is_sign None positive = false
-is_sign (Some sign) positive = same_sign positive sign
 
 -- the literals that are kept are the true ones, in whatever order
 abbrev pub KeepsTrues : List Literal → List Literal → Type 0

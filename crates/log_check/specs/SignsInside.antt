@@ -1,12 +1,9 @@
 -- What is true of the literals that are kept as true ones.
-use Rattle.std.specs.Prelude.{◌≡◌, ℕ, Bool}
-use Rattle.cnf_core.specs.Literal.{is_among}
+use Rattle.std.specs.Prelude.{◌≡◌}
+use Rattle.cnf_core.specs.Literal.{Literal, negation, code_of, is_among}
 use Rattle.log_check.specs.declared.signs.Signs.TheInside.{Inside}
-use Rattle.log_check.specs.Kept.{is_sign}
-use Rattle.log_check.specs.Table.{sign_of}
+use Rattle.log_check.specs.Table.{has}
 
--- the signs in the table are those of the literals in the list
-abbrev pub HasSigns : Inside → Type 0
-HasSigns s =
-    (v : ℕ) (positive : Bool)
-    → is_sign (sign_of s.table v) positive ≡ is_among s.trues.items (record { var = v; positive = positive })
+-- the table has the numbers of the literals whose negations are in the list
+abbrev pub HasFalses : Inside → Type 0
+HasFalses s = (l : Literal) → has s.falses (code_of l) ≡ is_among s.trues.items (negation l)

@@ -1,9 +1,9 @@
--- The signs that a table keeps.
-use Rattle.std.specs.Prelude.{ℕ, nat_eq, nat_lt, if◌then◌else◌, Bool, Option, None, length, slice_index_or}
-use Rattle.std.specs.HashMap.{get}
+-- The numbers that a table has.
+use Rattle.std.specs.Prelude.{ℕ, nat_eq, nat_lt, if◌then◌else◌, Bool, false, length, slice_index_or}
+use Rattle.std.specs.HashSet.{contains}
 use Rattle.log_check.specs.declared.signs.Table.{Table}
 
--- the sign that is kept for a variable: small ones have a place of their own
-abbrev pub sign_of : Table → ℕ → Option Bool
-sign_of t v =
-    if nat_lt v (length t.small.items) then slice_index_or t.small.items v None else get nat_eq t.large v
+-- whether it has a number: small ones have a place of their own
+abbrev pub has : Table → ℕ → Bool
+has t n =
+    if nat_lt n (length t.small.items) then slice_index_or t.small.items n false else contains nat_eq t.large n

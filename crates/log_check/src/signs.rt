@@ -1,89 +1,96 @@
 //! The literals that are true while the hints of a line are read.
 
-ghost use Rattle.std.specs.Prelude.{◌≡◌, ℕ, [], nat_eq, if◌then◌else◌, Some, None, OnOk, OnErr, IfOk};
-ghost use Rattle.std.specs.HashMap.{get};
-ghost use Rattle.cnf_core.specs.Literal.{negation, is_among};
-ghost use Rattle.log_check.specs.Table.{sign_of};
+ghost use Rattle.std.specs.Prelude.{◌≡◌, ℕ, [], false, nat_eq, if◌then◌else◌, true, OnOk, OnErr, IfOk};
+ghost use Rattle.std.specs.HashSet.{contains};
+ghost use Rattle.cnf_core.specs.Literal.{negation, code_of, is_among};
+ghost use Rattle.log_check.specs.Table.{has};
 ghost use Rattle.log_check.specs.Kept.{MakesTrue};
 
 use cnf_core::{Formula, Lit};
 use ep_base::Memory;
 use std::alloc::Global;
-use std::collections::HashMap;
+use std::collections::HashSet;
 use std::marker::Model;
 
-/// The signs of variables. Small variables have a place of their own, and others are in a map.
+/// Numbers. Small ones have a place of their own, and others are in a set.
 #[derive(Drop)]
 pub struct Table {
-    small: Vec<Option<bool>>,
-    large: HashMap<u64, bool>,
+    small: Vec<bool>,
+    large: HashSet<u64>,
 }
 
 impl Table {
-    /// A table without signs, with this many places.
+    /// A table without numbers, with this many places.
     fn new(alloc: Global, places: usize) -> Result<Table, Memory>
-        ensures { IfOk result (λ table. (v : ℕ) → sign_of table v ≡ None) }
+        ensures { IfOk result (λ table. (n : ℕ) → has table n ≡ false) }
     {
-        let small = vec![in alloc; None; places]?;
-        let large = HashMap::new(alloc);
+        let small = vec![in alloc; false; places]?;
+        let large = HashSet::new(alloc);
         Ok(Table { small, large })
     }
 
     #[inline(always)]
-    fn sign(&self, var: u64) -> Option<bool>
-        ensures { result ≡ sign_of self.now var }
+    fn has(&self, number: u64) -> bool
+        ensures { result ≡ has self.now number }
     {
-        let place = var as usize;
+        let place = number as usize;
         if place < self.small.len() {
             self.small[place]
         } else {
-            self.large_sign(var)
+            self.large_has(number)
         }
     }
 
-    /// The sign that the map has. It stands apart, so that what each literal asks is short enough to be written out in its place.
+    /// Whether the set has it. It stands apart, so that what each literal asks is short enough to be written out in its place.
     #[inline(never)]
-    fn large_sign(&self, var: u64) -> Option<bool>
-        ensures { result ≡ get nat_eq self.now.large var }
+    fn large_has(&self, number: u64) -> bool
+        ensures { result ≡ contains nat_eq self.now.large number }
     {
-        self.large.get(&var).copied()
+        self.large.contains(&number)
     }
 
     #[inline(always)]
-    fn put(&mut self, var: u64, sign: bool) -> Result<(), Memory>
+    fn put(&mut self, number: u64) -> Result<(), Memory>
         ensures ok { OnOk result
-            ((v : ℕ) → sign_of self.new v
-            ≡ (if nat_eq var v then Some sign else sign_of self.old v)) }
-        ensures err { OnErr result ((v : ℕ) → sign_of self.new v ≡ sign_of self.old v) }
+            ((n : ℕ) → has self.new n ≡ (if nat_eq number n then true else has self.old n)) }
+        ensures err { OnErr result ((n : ℕ) → has self.new n ≡ has self.old n) }
     {
-        let place = var as usize;
+        let place = number as usize;
         if place < self.small.len() {
-            self.small[place] = Some(sign);
+            self.small[place] = true;
         } else {
-            self.large.insert(var, sign)?;
+            self.large.insert(number)?;
         }
         Ok(())
     }
 
     #[inline(always)]
-    fn take_out(&mut self, var: u64)
-        ensures { (v : ℕ) → sign_of self.new v
-            ≡ (if nat_eq var v then None else sign_of self.old v) }
+    fn take_out(&mut self, number: u64)
+        ensures { (n : ℕ) → has self.new n ≡ (if nat_eq number n then false else has self.old n) }
     {
-        let place = var as usize;
+        let place = number as usize;
         if place < self.small.len() {
-            self.small[place] = None;
+            self.small[place] = false;
         } else {
-            self.large.remove(&var);
+            self.large.remove(&number);
         }
     }
 }
 
-/// Literals that are true, none together with its negation, in the order in which they became so.
+/// The number that a table keeps for a literal.
+#[inline(always)]
+fn code(lit: &Lit) -> u64
+    ensures { result ≡ code_of lit.now }
+{
+    2 * lit.var() + if lit.positive() { 0 } else { 1 }
+}
+
+/// Literals that are true, none together with its negation, in the order in which they became so, and
+/// a table of those that are false.
 #[derive(Drop)]
 pub struct Signs {
     trues: Vec<Lit>,
-    table: Table,
+    falses: Table,
 }
 
 impl Model for Signs {
@@ -92,11 +99,11 @@ impl Model for Signs {
 
     ghost Value = { List Literal };
 
-    ghost use Rattle.log_check.specs.SignsInside.{HasSigns};
+    ghost use Rattle.log_check.specs.SignsInside.{HasFalses};
 
     ghost view = { λ s. s.trues.items };
 
-    ghost invariant = { HasSigns };
+    ghost invariant = { HasFalses };
 }
 
 impl Signs {
@@ -104,10 +111,10 @@ impl Signs {
     pub(crate) fn new(alloc: Global, places: usize) -> Result<Signs, Memory>
         ensures { IfOk result (λ signs. signs ≡ []) }
     {
-        let table = Table::new(alloc, places)?;
+        let falses = Table::new(alloc, places)?;
         Ok(Signs {
             trues: Vec::new(alloc),
-            table,
+            falses,
         })
     }
 
@@ -115,10 +122,7 @@ impl Signs {
     pub(crate) fn is_false(&self, lit: &Lit) -> bool
         ensures { result ≡ is_among self.now (negation lit.now) }
     {
-        match self.table.sign(lit.var()) {
-            Some(sign) => sign != lit.positive(),
-            None => false,
-        }
+        self.falses.has(code(lit))
     }
 
     /// Makes a literal true, unless its negation is, and answers whether it is true now.
@@ -126,15 +130,16 @@ impl Signs {
     pub(crate) fn set_true(&mut self, lit: Lit) -> Result<bool, Memory>
         ensures { IfOk result (λ done. MakesTrue self.old self.new lit done) }
     {
-        match self.table.sign(lit.var()) {
-            Some(sign) => Ok(sign == lit.positive()),
-            None => {
-                self.trues.reserve(1)?;
-                self.table.put(lit.var(), lit.positive())?;
-                self.trues.push_reserved(lit);
-                Ok(true)
-            }
+        if self.is_false(&lit) {
+            return Ok(false);
         }
+        let negated = lit.negated();
+        if !self.is_false(&negated) {
+            self.trues.reserve(1)?;
+            self.falses.put(code(&negated))?;
+            self.trues.push_reserved(lit);
+        }
+        Ok(true)
     }
 
     /// Makes no literal true.
@@ -142,12 +147,12 @@ impl Signs {
         ensures { self.new ≡ [] }
     {
         while let Some(lit) = self.trues.pop() {
-            self.table.take_out(lit.var());
+            self.falses.take_out(code(&lit.negated()));
         }
     }
 }
 
-/// How many places the signs over a formula get: one for each variable, where it has no more of these
+/// How many places the signs over a formula get: two for each variable, where it has no more of these
 /// than literals.
 pub(crate) fn places(f: &Formula) -> usize {
     let mut literals = 0usize;
@@ -155,5 +160,8 @@ pub(crate) fn places(f: &Formula) -> usize {
     for place in 0..clauses.len() {
         literals = literals.saturating_add(clauses.clause(place).len());
     }
-    1 + literals.min(f.vars() as usize)
+    literals
+        .min(f.vars() as usize)
+        .saturating_add(1)
+        .saturating_mul(2)
 }
