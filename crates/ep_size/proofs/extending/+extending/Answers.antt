@@ -1,4 +1,4 @@
-use Rattle.ep_size.proofs.Words.{refl, ◌≡◌, ◌≤◌, ◌<◌, ◌^◌, ◌+◌, ◌∷◌, ℕ, List, drop, length, subst, [], ap, sym, ◌∙◌, arith, Option, w64, to_z, of_z, ◌++◌, flat_map, map, option_map, true, false, unwrap_or, to_z-of_z, ints, drop_all, drop_more, deeper, first_generator, first_within, of_kind, second_within, form_tree, index_at, quantified_tree, IsBelow, depth_of, end_depth, generators_depth, listing_depth, met-chain, met-in_domain, met-literal, met-named, met-read, holds_decision-quantified, scalar_in, with_number, domain_values, index_values, type_in, met, met_all, met_domain, met_index, met_indices, decisions_in, extents_of, hiding, holds_decision, measured_indices, measured_list, span_of, no_generators, domain_tree, end_of, expr_tree, expr_trees, generators_of, indices_of, terms_of, size-Domain, Expr, size-Expr, size-Generator, size-Kind, generators_first, generators_none, nodes_bare, nodes_part, met_bare, met_quantified, meets_some, no_runs, met-counts, met-one, met-truths, met-two, nodes_at, nodes_of, ranging_over, instance_env, instance_nodes, env_in, mode_in, with_all, IsWalkBehind, before_rest, numbers_left, IsKnownExtent, grid_of, known_at, known_of, measured_of, Told, HasInstances, instance_at, hidden_without, Every, most}
+use Rattle.ep_size.proofs.Words.{Totals, refl, ◌≡◌, ◌≤◌, ◌<◌, ◌^◌, ◌+◌, ◌∷◌, ℕ, List, drop, length, subst, [], ap, sym, ◌∙◌, arith, Option, w64, to_z, of_z, ◌++◌, flat_map, map, option_map, true, false, unwrap_or, to_z-of_z, ints, drop_all, drop_more, deeper, first_generator, first_within, of_kind, second_within, form_tree, index_at, quantified_tree, IsBelow, depth_of, end_depth, generators_depth, listing_depth, met-chain, met-in_domain, met-literal, met-named, met-read, holds_decision-quantified, scalar_in, with_number, domain_values, index_values, type_in, met, met_all, met_domain, met_index, met_indices, decisions_in, extents_of, hiding, holds_decision, measured_indices, measured_list, span_of, no_generators, domain_tree, end_of, expr_tree, expr_trees, generators_of, indices_of, terms_of, size-Domain, Expr, size-Expr, size-Generator, size-Kind, generators_first, generators_none, nodes_bare, nodes_part, met_bare, met_quantified, meets_some, no_runs, met-counts, met-one, met-truths, met-two, nodes_at, nodes_of, ranging_over, instance_env, instance_nodes, env_in, mode_in, with_all, IsWalkBehind, before_rest, numbers_left, IsKnownExtent, grid_of, known_at, known_of, measured_of, Told, HasInstances, instance_at, hidden_without, Every, most}
 use Rattle.ep_size.proofs.GeneratedSteps.{comprehension_told, conditions_stop, extents_bare, extents_part, listed_begins, listed_ends, listed_goes_on, name_stops, name_told, no_part_told, nothing_behind, part_told}
 use Rattle.ep_size.proofs.IndexParts.{literal_node, parts_begin, parts_end, parts_more}
 use Rattle.ep_size.proofs.ListNodes.{lists_finish}
@@ -44,7 +44,7 @@ decided-returns-in_ok-node-in-Named t c =
     let p = c.args.e.now.place in
     at_tree mode env _ _ _ _ _ (c.in-Named.ensures.tree p)
     (node_told mode env _ c.args.totals.now c.args.totals.now c.args.totals.now c.settle.new.totals [] c.named_node-made.result c.in_ok-node-in-Named.node (met-named mode env p c.in-Named.name.now)
-    (told_none {P = Unit {0}} mode c.args.totals.now tt) refl (λ k. c.named_node-made.ensures p c.args.totals.now.weight) c.settle.ensures)
+    (told_none {P = Unit {0}} mode c.args.totals.now tt) refl (λ k. c.named_node-made.ensures p c.args.totals.now.weight) c.in_ok-node-in-Named.ensures)
 
 pub decided-returns-in_ok-node-in-One : goal.decided-returns-in_ok-node-in-One
 unfolding form_tree
@@ -56,7 +56,7 @@ decided-returns-in_ok-node-in-One t c =
     let held = ap (holds_decision d) (c.in-One.ensures.tree p) ∙ c.requires in
     at_tree mode env _ _ _ _ _ (c.in-One.ensures.tree p)
     (node_told mode env _ c.args.totals.now c.extent_of.new.totals (weighing c.extent_of.new.totals c.finish_one-made.new.total) c.settle-in-One.new.totals _ c.finish_one-made.result c.in_ok-node-in-One.node
-    (met-one mode env p c.in-One.op (expr_tree c.in-One.part.now)) c.in_ok-known-in-One.ensures refl (λ known. c.finish_one-made.ensures mode p held known) c.settle-in-One.ensures)
+    (met-one mode env p c.in-One.op (expr_tree c.in-One.part.now)) c.in_ok-known-in-One.ensures refl (λ known. c.finish_one-made.ensures mode p held known) c.in_ok-node-in-One.ensures)
 
 pub decided-returns-in_ok-node-in-Two : goal.decided-returns-in_ok-node-in-Two
 unfolding form_tree
@@ -74,7 +74,7 @@ decided-returns-in_ok-node-in-Two t c =
     told_then mode c.args.totals.now c.extent_of-in-Two.new.totals u _ _ c.in_ok-first-in-Two.ensures c.in_ok-second-in-Two.ensures (λ k l. (k, l)) in
     at_tree mode env _ _ _ _ _ (c.in-Two.ensures.tree p)
     (node_told mode env _ c.args.totals.now u (weighing u c.finish_two-made.new.total) c.settle-in-Two.new.totals _ c.finish_two-made.result c.in_ok-node-in-Two.node (met-two mode env p op e f) both refl
-    (λ known. c.finish_two-made.ensures mode env p e f held known.0 known.1) c.settle-in-Two.ensures)
+    (λ known. c.finish_two-made.ensures mode env p e f held known.0 known.1) c.in_ok-node-in-Two.ensures)
 
 pub decided-returns-in_ok-node-in-Counts : goal.decided-returns-in_ok-node-in-Counts
 unfolding form_tree
@@ -97,7 +97,7 @@ decided-returns-in_ok-node-in-Counts t c =
     told_then mode c.args.totals.now u v _ _ both c.in_ok-third-in-Counts.ensures (λ k l. (k, l)) in
     at_tree mode env _ _ _ _ _ (c.in-Counts.ensures.tree p)
     (node_told mode env _ c.args.totals.now v (weighing v c.finish_counts-made.new.total) c.settle-in-Counts.new.totals _ c.finish_counts-made.result c.in_ok-node-in-Counts.node (met-counts mode env p op e f g) all refl
-    (λ known. c.finish_counts-made.ensures mode env p e f g held known.0.0 known.0.1 known.1) c.settle-in-Counts.ensures)
+    (λ known. c.finish_counts-made.ensures mode env p e f g held known.0.0 known.0.1 known.1) c.in_ok-node-in-Counts.ensures)
 
 pub decided-returns-in_ok-node-in-Truths : goal.decided-returns-in_ok-node-in-Truths
 unfolding form_tree
@@ -112,7 +112,7 @@ decided-returns-in_ok-node-in-Truths t c =
     let u = c.part_extents.new.totals in
     at_tree mode env _ _ _ _ _ (c.in-Truths.ensures.tree p)
     (node_told mode env _ c.args.totals.now u (weighing u c.finish_truths-made.new.total) c.settle-in-Truths.new.totals _ c.finish_truths-made.result c.in_ok-node-in-Truths.node (met-truths mode env p every (expr_trees xs))
-    c.in_ok-_known-in-Truths.ensures refl (λ known. c.finish_truths-made.ensures mode env p every xs refl held) c.settle-in-Truths.ensures)
+    c.in_ok-_known-in-Truths.ensures refl (λ known. c.finish_truths-made.ensures mode env p every xs refl held) c.in_ok-node-in-Truths.ensures)
 
 pub decided-returns-in_ok-node-in-Chain : goal.decided-returns-in_ok-node-in-Chain
 unfolding form_tree
@@ -126,7 +126,7 @@ decided-returns-in_ok-node-in-Chain t c =
     let u = c.sum_of_terms.new.totals in
     at_tree mode env _ _ _ _ _ (c.in-Chain.ensures.tree p)
     (node_told mode env _ c.args.totals.now u (weighing u c.summed_node-made.new.total) c.settle-in-Chain.new.totals _ c.summed_node-made.result c.in_ok-node-in-Chain.node (met-chain mode env p (terms_of xs))
-    c.in_ok-sum-in-Chain.ensures refl (λ sums. c.summed_node-made.ensures mode env _ (spans_of mode env xs) sums (chain_number mode env p xs held)) c.settle-in-Chain.ensures)
+    c.in_ok-sum-in-Chain.ensures refl (λ sums. c.summed_node-made.ensures mode env _ (spans_of mode env xs) sums (chain_number mode env p xs held)) c.in_ok-node-in-Chain.ensures)
 
 pub decided-returns-in_ok-node-in-InDomain : goal.decided-returns-in_ok-node-in-InDomain
 unfolding form_tree
@@ -142,7 +142,7 @@ decided-returns-in_ok-node-in-InDomain t c =
     at_tree mode env _ _ _ _ _ (c.in-InDomain.ensures.tree p)
     (node_told mode env _ c.args.totals.now v (weighing v c.finish_member-made.new.total) c.settle-in-InDomain.new.totals _ c.finish_member-made.result c.in_ok-node-in-InDomain.node (met-in_domain mode env p e dom)
     (told_then mode c.args.totals.now c.extent_of-in-InDomain.new.totals v _ _ c.in_ok-known-in-InDomain.ensures c.in_ok-_numbers-in-InDomain.ensures (λ known set. known)) refl
-    (λ known. c.finish_member-made.ensures mode env p e dom held known) c.settle-in-InDomain.ensures)
+    (λ known. c.finish_member-made.ensures mode env p e dom held known) c.in_ok-node-in-InDomain.ensures)
 
 pub decided-returns-in_ok-known-in-Quant : goal.decided-returns-in_ok-known-in-Quant
 unfolding form_tree
@@ -171,7 +171,7 @@ decided-returns-in_ok-node-in-Literal t c =
     (node_told mode env _ c.args.totals.now v v c.settle-in-Literal.new.totals _ c.matrix_of-made.result c.in_ok-node-in-Literal.node (met-literal mode env p (expr_trees xs) dom) both refl
     (λ known. lists_finish mode env _ _ v.weight c.matrix_of-made.result
     (literal_node mode env p xs dom c.in_ok-indices-in-Literal.indices c.in_ok-known-in-Literal.known.items held known.0 known.1) c.matrix_of-made.ensures)
-    c.settle-in-Literal.ensures)
+    c.in_ok-node-in-Literal.ensures)
 
 pub decided-returns-in_ok-node-in-Comprehension : goal.decided-returns-in_ok-node-in-Comprehension
 unfolding form_tree
@@ -186,7 +186,7 @@ decided-returns-in_ok-node-in-Comprehension t c =
     (comprehension_told mode env p (expr_tree l.body.now) (generators_of c.in-Comprehension.generators.now) (expr_trees l.conditions.now) (index_at c.in-Comprehension.domain.now)
     c.args.totals.now c.generated.new.totals c.index_numbers-in-Comprehension.new.totals c.settle-in-Comprehension.new.totals c.in_ok-indices-in-Comprehension.indices _ c.in_ok-known-in-Comprehension.known.items
     c.matrix_of-made-in-Comprehension.result c.in_ok-node-in-Comprehension.node
-    c.new-none.ensures.items c.in_ok-known-in-Comprehension.ensures c.in_ok-indices-in-Comprehension.ensures held c.matrix_of-made-in-Comprehension.ensures c.settle-in-Comprehension.ensures)
+    c.new-none.ensures.items c.in_ok-known-in-Comprehension.ensures c.in_ok-indices-in-Comprehension.ensures held c.matrix_of-made-in-Comprehension.ensures c.in_ok-node-in-Comprehension.ensures)
 
 pub decided-returns-in_ok-node-in-Read : goal.decided-returns-in_ok-node-in-Read
 unfolding form_tree
@@ -206,7 +206,7 @@ decided-returns-in_ok-node-in-Read t c =
     (node_told mode env _ c.args.totals.now v (weighing v c.read_node-made.new.total) c.settle-in-Read.new.totals _ c.read_node-made.result c.in_ok-node-in-Read.node (met-read mode env p m is) both refl
     (λ known. c.read_node-made.ensures mode env p m is held known.0 (ap (map measured_of) c.deref.ensures.value ∙ known.1)
     (c.in_ok-ty-in-Read.ensures ∙ ap (type_in env) (sym (c.in-Read.ensures.tree p)))
-    (c.names_cells-of_name.ensures mode env c.in-Read.matrix.now.place known.0)) c.settle-in-Read.ensures)
+    (c.names_cells-of_name.ensures mode env c.in-Read.matrix.now.place known.0)) c.in_ok-node-in-Read.ensures)
 
 pub decided-extent_of-requires : goal.decided-extent_of-requires
 unfolding IsBelow
@@ -396,7 +396,7 @@ quantified-returns-in_ok-node-in-Some t c p =
     (told_then mode c.args.totals.now c.fixed_numbers.new.totals u _ _ c.in_ok-numbers-in-Some.ensures (c.in_ok-known-in-Some.ensures p) (λ is known. known)) refl
     (λ known. c.finish_quantifier-made.ensures mode env _ (option_map (spans_at mode env p q.op name rest d e) numbers)
     (subst (HasInstances c.in_ok-known-in-Some.known) (spans_told mode env p q.op name rest d e numbers) known)
-    (quantified_number mode env p q.op name rest d e numbers held (sym set))) c.settle.ensures)
+    (quantified_number mode env p q.op name rest d e numbers held (sym set))) c.in_ok-node-in-Some.ensures)
 
 pub quantified-returns-in_ok-known-in-None : goal.quantified-returns-in_ok-known-in-None
 quantified-returns-in_ok-known-in-None t c p =
@@ -460,13 +460,14 @@ instances-loop-number-smaller t c =
     omega (arith, longer)
 
 pub instances-quantified-requires : goal.instances-quantified-requires
+unfolding with_all
 instances-quantified-requires t c =
     let env = env_in c.args.scope in
     let q = c.args.quantifier in
     let e = expr_tree q.body.now in
     let name = c.args.name.now in
     let rest = c.args.rest.now in
-    (omega (arith, c.decreases), held_within env name _ _ rest e c.requires.holds)
+    (omega (arith, c.decreases), held_within env name c.scalar_of-scalar.result (to_z w64 (of_z w64 c.in-Some.number)) rest e c.requires.holds)
 
 pub instances-loop-number-preserved : goal.instances-loop-number-preserved
 unfolding before_rest IsWalkBehind with_all
@@ -585,7 +586,7 @@ over_names-returns-in_ok-more-in-Some t c =
     let name = c.in-Some.name.now in
     let rest = c.in-Some.rest.now in
     let free = none_passed _ _ c.is_over.ensures c.if-is_over.false in
-    let after = record { meter = c.count_name.new.meter; weight = c.over_range.new.totals.weight } in
+    let after : Totals = record { meter = c.count_name.new.meter; weight = c.over_range.new.totals.weight } in
     subst (λ ns. Told mode c.args.totals.now after (nodes_of mode l (ranging_over r ns) env) (map grid_of c.in_ok-more-in-Some.more.items ≡ map grid_of c.args.front.items ++ known_of mode l (ranging_over r ns) env)) (sym c.in-Some.ensures.cases.0)
     (name_told mode e cs name rest d gens env c.args.totals.now c.fixed_numbers.new.totals c.over_range.new.totals c.count_name.new.meter c.in_ok-numbers-in-Some.numbers
     (map grid_of c.args.front.items) (map grid_of c.in_ok-more-in-Some.more.items) c.in_ok-numbers-in-Some.ensures free c.in_ok-more-in-Some.ensures c.count_name.ensures)

@@ -13,16 +13,16 @@ returns-in-Some-clause-cause c =
 
 pub returns-then-totals-gt-MOST_WEIGHT-clause-cause : goal.returns-then-totals-gt-MOST_WEIGHT-clause-cause
 returns-then-totals-gt-MOST_WEIGHT-clause-cause c =
-    too_heavy (instance_mode c.args.instance.now) (plain_instance c.args.instance.now) c.in_ok-totals.totals c.in_ok-totals.ensures.told c.in-None.is (omega (arith, c.if-totals-gt-MOST_WEIGHT.true))
+    too_heavy (instance_mode c.args.instance.now) (plain_instance c.args.instance.now) c.in_ok-totals.totals c.in_ok-totals.ensures.told c.in_default.is (omega (arith, c.if-totals-gt-MOST_WEIGHT.true))
 
 pub returns-clause-size : goal.returns-clause-size
 returns-clause-size c =
-    whole_size (instance_mode c.args.instance.now) (plain_instance c.args.instance.now) c.in_ok-totals.totals c.in_ok-totals.ensures.told c.in-None.is
+    whole_size (instance_mode c.args.instance.now) (plain_instance c.args.instance.now) c.in_ok-totals.totals c.in_ok-totals.ensures.told c.in_default.is
 
 pub returns-clause-weight : goal.returns-clause-weight
 returns-clause-weight c =
-    whole_weight (instance_mode c.args.instance.now) (plain_instance c.args.instance.now) c.in_ok-totals.totals c.in_ok-totals.ensures.told c.in-None.is (omega (arith, c.if-totals-gt-MOST_WEIGHT.false))
+    whole_weight (instance_mode c.args.instance.now) (plain_instance c.args.instance.now) c.in_ok-totals.totals c.in_ok-totals.ensures.told c.in_default.is (omega (arith, c.if-totals-gt-MOST_WEIGHT.false))
 
 pub returns-clause-within : goal.returns-clause-within
 returns-clause-within c =
-    whole_within (instance_mode c.args.instance.now) (plain_instance c.args.instance.now) c.in_ok-totals.totals c.in_ok-totals.ensures.told c.in-None.is (omega (arith, c.if-totals-gt-MOST_WEIGHT.false))
+    whole_within (instance_mode c.args.instance.now) (plain_instance c.args.instance.now) c.in_ok-totals.totals c.in_ok-totals.ensures.told c.in_default.is (omega (arith, c.if-totals-gt-MOST_WEIGHT.false))
