@@ -65,7 +65,17 @@ find x, y : int(0..9999) such that x * y = 6##L6
 $ Weight is named where neither other limit is passed
 find x : int(0..16384) such that x ** 3 = 8##L5
 find x, y : int(0..9999) such that x * y = 6, 2**41 > 0##L5
-find x, y : int(0..9999) such that x * y = 6 find m : matrix indexed by [int(1..4999995)] of int(1)##L4";
+find x, y : int(0..9999) such that x * y = 6 find m : matrix indexed by [int(1..4999995)] of int(1)##L4
+$ Behind a limit that is passed nothing is asked of what isn't known
+find x : int(0..16384) find q : matrix indexed by [int(1..2), int(1..2)] of int(1..2) such that x ** 3 = 8, allDiff(q[1, ..])##L5
+find x : int(0..16384) find q : matrix indexed by [int(1..2), int(1..2)] of int(1..2) such that x ** 3 = 8 /\\ allDiff(q[1, ..])##L5
+find x : int(0..16384) find q : matrix indexed by [int(1..2), int(1..2)] of int(1..2) such that x ** 3 = 8 /\\ sum(q[.., 2]) = 3##L5
+find x : int(0..16384) find q : matrix indexed by [int(1..2), int(1..2)] of int(1..2) such that x ** 3 = 8 /\\ q[q[1, 2], 1] = 1##L5
+find x : int(0..16384) such that x ** 3 = 8 /\\ allDiff([[x, 1], [2, x]][1, ..])##L5
+find x : int(0..16384) such that x ** 3 = 8 /\\ allDiff([[x, 1], [2, x]][.., 1])##L5
+find x : int(0..16384) such that x ** 3 = 8 /\\ max(flatten([[x, 1], [2, x]])) = 2##L5
+find m : matrix indexed by [int(1..4999995)] of int(1) find q : matrix indexed by [int(1..2), int(1..2)] of int(1..2) such that true, allDiff(q[1, ..])##L4
+find m : matrix indexed by [int(1..4999995)] of int(1) find q : matrix indexed by [int(1..2), int(1..2)] of int(1..2) such that true, true, allDiff(q[1, ..])##L4";
 
 /// Instances with as many nodes as there may be, and with more.
 pub(crate) const MANY_NODES: &str = "\
