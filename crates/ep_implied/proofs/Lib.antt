@@ -1,0 +1,3 @@
+mod Products
+mod SumSteps
+mod Following
