@@ -18,3 +18,5 @@ pub mod GroundRows
 pub mod FlatRows
 pub mod ClauseRows
 pub mod VarRows
+pub mod EventRows
+pub mod OpenRows
