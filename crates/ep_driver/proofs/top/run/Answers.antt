@@ -110,7 +110,7 @@ pub returns-in-Ok-put_all-clause-unlogged : goal.returns-in-Ok-put_all-clause-un
 returns-in-Ok-put_all-clause-unlogged g c = when-unlogged _ _ _ _ _ _ _ (case-of _ _ _ _ _ _ _ c.in-Ok.ensures.says)
 
 pub returns-in_default-clause-others : goal.returns-in_default-clause-others
-returns-in_default-clause-others g c = want-others _ _ _ _ c.reply_to.new.log c.in_default.ensures.wants
+returns-in_default-clause-others g c = want-others c.args.words.now (g.F.Files.held c.args.files.now) (g.F.Files.held c.reply_to.new.files) (Rose (g.F.Files.faults c.args.files.now) (g.F.Files.faults c.reply_to.new.files)) c.reply_to.new.log c.in_default.ensures.wants
 
 pub returns-in-Ok-put_all-clause-others : goal.returns-in-Ok-put_all-clause-others
 returns-in-Ok-put_all-clause-others g c = when-others _ _ _ _ _ _ _ (case-of _ _ _ _ _ _ _ c.in-Ok.ensures.says)
@@ -126,7 +126,7 @@ returns-in-Ok-put_all-clause-unwritten g c = when-kept _ _ _ _ _ _ _ (case-of _ 
 
 pub returns-in_default-clause-refused_unwritten : goal.returns-in_default-clause-refused_unwritten
 returns-in_default-clause-refused_unwritten g c =
-    unwritten-on-want _ _ _ _ _ (once-of c.one_job_for_words.ensures c.texts_have_one_answer.ensures.models c.texts_have_one_answer.ensures.params c.texts_have_one_answer.ensures.params c.cnf_texts_have_one_meaning.ensures.one c.log_texts_have_one_meaning.ensures.one c.opb_texts_come_to_one_thing.ensures.once c.args.words.now) c.in_default.ensures.wants
+    unwritten-on-want c.args.words.now (g.F.Files.held c.args.files.now) (g.F.Files.held c.reply_to.new.files) (Rose (g.F.Files.faults c.args.files.now) (g.F.Files.faults c.reply_to.new.files)) c.reply_to.new.log (once-of c.one_job_for_words.ensures c.texts_have_one_answer.ensures.models c.texts_have_one_answer.ensures.params c.texts_have_one_answer.ensures.params c.cnf_texts_have_one_meaning.ensures.one c.log_texts_have_one_meaning.ensures.one c.opb_texts_come_to_one_thing.ensures.once c.args.words.now) c.in_default.ensures.wants
 
 pub returns-in-Ok-put_all-clause-refused_unwritten : goal.returns-in-Ok-put_all-clause-refused_unwritten
 returns-in-Ok-put_all-clause-refused_unwritten g c =
@@ -142,14 +142,14 @@ returns-clause-refused_unwritten g c =
 
 pub returns-in_default-clause-refused_unlogged : goal.returns-in_default-clause-refused_unlogged
 returns-in_default-clause-refused_unlogged g c =
-    unlogged-on-want _ _ _ (once-of c.one_job_for_words.ensures c.texts_have_one_answer.ensures.models c.texts_have_one_answer.ensures.params c.texts_have_one_answer.ensures.params c.cnf_texts_have_one_meaning.ensures.one c.log_texts_have_one_meaning.ensures.one c.opb_texts_come_to_one_thing.ensures.once c.args.words.now) c.in_default.ensures.asked
+    unlogged-on-want c.args.words.now (g.F.Files.held c.args.files.now) c.reply_to.new.log (once-of c.one_job_for_words.ensures c.texts_have_one_answer.ensures.models c.texts_have_one_answer.ensures.params c.texts_have_one_answer.ensures.params c.cnf_texts_have_one_meaning.ensures.one c.log_texts_have_one_meaning.ensures.one c.opb_texts_come_to_one_thing.ensures.once c.args.words.now) c.in_default.ensures.asked
 
 pub returns-clause-refused_unlogged : goal.returns-clause-refused_unlogged
 returns-clause-refused_unlogged g c =
     unlogged-said _ _ _ _ _ _ _ (once-of c.one_job_for_words.ensures c.texts_have_one_answer.ensures.models c.texts_have_one_answer.ensures.params c.texts_have_one_answer.ensures.params c.cnf_texts_have_one_meaning.ensures.one c.log_texts_have_one_meaning.ensures.one c.opb_texts_come_to_one_thing.ensures.once c.args.words.now) (case-of _ _ _ _ _ _ _ c.in-Ok.ensures.says)
 
 pub returns-in_default-clause-judged_unlogged : goal.returns-in_default-clause-judged_unlogged
-returns-in_default-clause-judged_unlogged g c = judged-on-want _ _ _ (want-once c.one_job_for_words.ensures c.args.words.now) c.in_default.ensures.asked
+returns-in_default-clause-judged_unlogged g c = judged-on-want c.args.words.now (g.F.Files.held c.args.files.now) c.reply_to.new.log (want-once c.one_job_for_words.ensures c.args.words.now) c.in_default.ensures.asked
 
 pub returns-in-Ok-put_all-clause-judged_unlogged : goal.returns-in-Ok-put_all-clause-judged_unlogged
 returns-in-Ok-put_all-clause-judged_unlogged g c = judged-said _ _ _ _ _ _ _ (want-once c.one_job_for_words.ensures c.args.words.now) (case-of _ _ _ _ _ _ _ c.in-Ok.ensures.says)
