@@ -1,5 +1,5 @@
 -- A text comes to one thing, and to something.
-use Rattle.std.proofs.Common.{◌≡◌, ◌⊎◌, inl, inr, ℕ, ◌<◌, ◌≤◌, List, [], ◌∷◌, length, Result, Ok, Err, refl, sym, ap, subst, ◌∙◌, arith}
+use Rattle.std.proofs.Common.{◌≡◌, ◌⊎◌, inl, inr, ℕ, ◌≤◌, List, [], ◌∷◌, length, Result, Ok, Err, refl, sym, ap, ◌∙◌, arith}
 use Rattle.std.specs.List.{All}
 use Rattle.std.proofs.lemmas.Bool.{cases_lt}
 use Rattle.std.proofs.lemmas.List.Elements.{All-cons, All-head, All-nil, All-tail}
@@ -7,7 +7,7 @@ use Rattle.ep_base.specs.declared.operators.Limit.{Limit}
 use Rattle.opb_solve.proofs.FaultLines.{one_fault_line}
 use Rattle.opb_solve.proofs.Replying.{both_lengths, not_over, one_limit, refused_over}
 use Rattle.opb_solve.proofs.Variables.{weighs_some}
-use Rattle.opb_solve.specs.Replies.{IsOpbFaulty, IsOpbReadAs, IsOverOpbLimit, IsOverWeight, IsWithinWeight, OpbComesTo}
+use Rattle.opb_solve.specs.Replies.{IsOpbReadAs, OpbComesTo}
 use Rattle.opb_solve.specs.declared.replies.OpbRefusal.{OpbRefusal}
 use Rattle.opb_text.specs.Contents.{OpbContent, OpbConstraint, objective_terms}
 use Rattle.opb_text.specs.Grammar.{IsOpbFaultLine, SpellsOpb}

@@ -13,3 +13,4 @@ mod FaultLines
 mod Replying
 mod Variables
 mod Comings
+mod Bounded

@@ -1,11 +1,11 @@
 -- Each problem has a list of its variables, and a weight.
-use Rattle.std.proofs.Common.{◌≡◌, ◌↔◌, ◌⊎◌, inl, inr, ℕ, ◌+◌, ◌*◌, ◌<◌, ◌≤◌, List, [], ◌∷◌, length, refl, sym, ap, subst, ◌∙◌, arith}
-use Rattle.std.specs.List.{All, AllPairs, Contains}
+use Rattle.std.proofs.Common.{◌≡◌, ◌↔◌, ◌⊎◌, inl, inr, ℕ, ◌+◌, ◌*◌, ◌<◌, List, [], ◌∷◌, length, refl, sym, subst, ◌∙◌, arith}
+use Rattle.std.specs.List.{AllPairs, Contains}
 use Rattle.std.proofs.lemmas.Bool.{cases_lt}
-use Rattle.std.proofs.lemmas.List.Elements.{All-contains_itself, All-nil, All-weaker}
+use Rattle.std.proofs.lemmas.List.Elements.{All-contains_itself, All-weaker}
 use Rattle.std.proofs.lemmas.List.Kept.{AllPairs-cons}
 use Rattle.opb_text.specs.Contents.{OpbContent, named_variables}
-use Rattle.opb_text.specs.Weights.{AreVariablesOf, Weighs, sums_cost}
+use Rattle.opb_text.specs.Weights.{Weighs, sums_cost}
 use Rattle.opb_solve.proofs.SameVariables.{above_first, cases, first, later, nothing, tail}
 
 -- numbers in ascending order, each once: those of a list, and one more

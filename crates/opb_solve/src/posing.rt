@@ -3,9 +3,11 @@
 ghost use Rattle.std.specs.Prelude.{◌≡◌, [], true, length, map, take, All, IfOk, OnOk};
 ghost use Rattle.cnf_core.specs.Events.{given, is_given};
 ghost use Rattle.ep_answer.specs.AnswerViews.{plain_problem};
-ghost use Rattle.ep_flat.specs.FlatViews.{plain_map};
+ghost use Rattle.ep_flat.specs.FlatViews.{plain_flat, plain_map};
+ghost use Rattle.ep_flat.specs.Flats.{IsSoundFlat};
+ghost use Rattle.ep_implied.specs.Follows.{MeansTheSame};
 ghost use Rattle.opb_solve.specs.Meant.{AreCellsOf, IsCellOf, IsMapTo, PosesOpb};
-ghost use Rattle.opb_text.specs.Flats.{truth_domains, truth_numbers};
+ghost use Rattle.opb_text.specs.Flats.{StandsFor, truth_domains, truth_numbers};
 ghost use Rattle.opb_text.specs.Views.{plain_opb};
 ghost use Rattle.opb_text.specs.Weights.{AreVariablesOf, IsProblemWithinReach};
 ghost use Rattle.sat_search.specs.Logs.{IsSound};
@@ -15,8 +17,9 @@ use cnf_core::{Formula, Log};
 use enc_all::encode;
 use ep_answer::Problem;
 use ep_base::{Key, Memory, Name, Runs, Sense};
-use ep_flat::CellMap;
+use ep_flat::{CellMap, Flat};
 use ep_ground::Cell;
+use ep_implied::add_bound;
 use opb_text::{Opb, flat_of};
 use sat_search::Solver;
 use std::alloc::Global;
@@ -31,7 +34,7 @@ pub fn posed(alloc: Global, opb: &Opb, vars: &[u64], log: &mut Log) -> Result<Pr
     ensures readable { IfOk result (λ problem. All IsReadableNote log.new.notes) }
     ensures sound { IsSound log.new.events }
 {
-    let (flat, goal) = flat_of(alloc, opb)?;
+    let (flat, goal) = bounded_flat_of(alloc, opb)?;
     let (formula, layout) = encode(alloc, &flat)?;
     give_all(alloc, log, formula)?;
     let cells = cells_of(alloc, vars, &flat.vars)?;
@@ -46,6 +49,29 @@ pub fn posed(alloc: Global, opb: &Opb, vars: &[u64], log: &mut Log) -> Result<Pr
         map,
         solver,
     })
+}
+
+/// The flat problem that stands for a problem, with a constraint more which bounds its objective, where one is stated.
+fn bounded_flat_of(alloc: Global, opb: &Opb) -> Result<(Flat, Option<u64>), Memory>
+    requires { IsProblemWithinReach (plain_opb opb.now) }
+    ensures { IfOk result (λ made. StandsFor (plain_opb opb.now) (plain_flat made.0) made.1) }
+{
+    let (plain, goal) = flat_of(alloc, opb)?;
+    let mut flat = plain;
+    bound(alloc, &mut flat, goal)?;
+    Ok((flat, goal))
+}
+
+/// Adds a constraint which bounds the objective, where one is stated.
+fn bound(alloc: Global, flat: &mut Flat, goal: Option<u64>) -> Result<(), Memory>
+    requires { IsSoundFlat (plain_flat flat.old) }
+    ensures same { OnOk result (MeansTheSame (plain_flat flat.old) (plain_flat flat.new)) }
+    ensures sound { OnOk result (IsSoundFlat (plain_flat flat.new)) }
+{
+    match goal {
+        Some(var) => add_bound(alloc, flat, var),
+        None => Ok(()),
+    }
 }
 
 /// Moves the clauses of a formula into an empty log, as its givens.

@@ -63,6 +63,25 @@ fn conflicts_are_spent(rt: HostRuntime) -> Result<(), Fail> {
     Ok(())
 }
 
+/// Twenty things, of which each has a worth and a weight, and a sack: the worth goes by the weight. A table by weights says that no
+/// other choice is worth as much. Without a constraint that bounds the worth by what the sack holds the end takes four times as
+/// many conflicts as are allowed.
+const KNAPSACK: &str = "\
+min: -13 x1 -18 x2 -17 x3 -11 x4 -15 x5 -10 x6 -17 x7 -3 x8 -15 x9 -11 x10 -10 x11 -10 x12 -3 x13 \
+-11 x14 -12 x15 -13 x16 -7 x17 -21 x18 -12 x19 -2 x20 ;
+-12 x1 -16 x2 -16 x3 -10 x4 -14 x5 -8 x6 -15 x7 -1 x8 -14 x9 -9 x10 -8 x11 -8 x12 -1 x13 -10 x14 -10 \
+x15 -11 x16 -5 x17 -20 x18 -10 x19 -1 x20 >= -99 ;
+";
+
+#[test]
+fn a_knapsack_ends_within_few_conflicts(rt: HostRuntime) -> Result<(), Fail> {
+    assert_eq!(rt;
+        said(rt.alloc(), KNAPSACK, 500)?.as_str(),
+        "s OPTIMUM FOUND|v x1 -x2 -x3 -x4 -x5 x6 x7 x8 -x9 x10 x11 x12 x13 -x14 x15 x16 x17 -x18 x19 x20|"
+    );
+    Ok(())
+}
+
 #[test]
 fn a_text_without_words_is_an_empty_problem(rt: HostRuntime) -> Result<(), Fail> {
     let alloc = rt.alloc();
