@@ -1,6 +1,18 @@
 -- How many conflicts words allow.
-use Rattle.ep_driver.proofs.Words.{◌≡◌, ℕ, ◌≤◌, Bool, true, false, ◌&&◌, if◌then◌else◌, nat_le, zero, suc, length, codes, List, Option, Some, None, option_map, option_and_then, unwrap_or, bytes_eq, inl, inr, refl, sym, subst, arith, cases_Bool, nat_tests, digits_value, is_number, Setting, Text, value_of, Mode, Want, conflicts_wanted, no_outputs, one_within, wanted_of, CanBeRequested, CanBeWanted, HasFewCubes, IsSearchFor, Job, Outputs, Request, Wanted}
+use Rattle.std.proofs.Common.{◌≡◌, ℕ, ◌≤◌, Bool, true, false, ◌&&◌, if◌then◌else◌, nat_le, zero, suc, length, codes, List, Option, Some, None, option_map, option_and_then, unwrap_or, bytes_eq, inl, inr, refl, sym, subst, arith}
+use Rattle.std.proofs.lemmas.Bool.{cases_Bool}
+use Rattle.std.proofs.lemmas.Bool.Decides.{nat_tests}
+use Rattle.std.specs.Str.Parse.{digits_value}
+use Rattle.ep_base.specs.TokenTexts.{is_number}
 use Rattle.ep_words.specs.Jobs.{check_job, check_options, conflicts_of as set_conflicts, cubes_of, enumerate_job, enumerate_options, explain_job, explain_options, generate_job, generate_options, job_of, mode_of, number_if_set, number_or, number_within, opb_job, opb_options, sets_only, solution_count, solve_job, solve_options, verify_job, verify_options, workers_of}
+use Rattle.ep_words.specs.Settings.{Setting, Text, value_of}
+use Rattle.ep_tree.specs.declared.values.Mode.{Mode}
+use Rattle.ep_driver.specs.Commands.{Want, conflicts_wanted, no_outputs, one_within, wanted_of}
+use Rattle.ep_driver.specs.Searches.{CanBeRequested, CanBeWanted, HasFewCubes, IsSearchFor}
+use Rattle.ep_words.specs.declared.job.Job.{Job}
+use Rattle.ep_driver.specs.declared.wanted.Outputs.{Outputs}
+use Rattle.ep_driver.specs.declared.wanted.Request.{Request}
+use Rattle.ep_driver.specs.declared.wanted.Wanted.{Wanted}
 
 -- ---- options
 

@@ -1,8 +1,19 @@
 -- What errors of checking and binding say.
-use Rattle.ep_driver.proofs.Words.{List, Ok, Err, Result, inl, inr, refl, Limit, RefusesBinding, BindError, Source, TextFile, Fault, ill_typed, open_domain, redeclared, unknown_name, wrong_category, IsAmongFaults, fault_of, StaticError, as_outcome, bind_refusal, bind_refusals, fault_refusal, fault_refusals, file_of, status_of, Passes, Tells, bind_stop, static_stop}
-use Rattle.std.proofs.Common.{Contains}
+use Rattle.std.proofs.Common.{List, Ok, Err, Result, Contains, inl, inr, refl}
+use Rattle.ep_base.specs.declared.operators.Limit.{Limit}
+use Rattle.ep_instance_parts.specs.Refusals.{RefusesBinding}
+use Rattle.ep_instance_parts.specs.declared.errors.BindError.{BindError}
+use Rattle.ep_instance_parts.specs.declared.errors.Source.{Source}
 use Rattle.ep_print.specs.declared.refusals.Refusal.{Refusal}
+use Rattle.ep_print.specs.declared.refusals.TextFile.{TextFile}
 use Rattle.ep_tree.specs.Binding.{Refusal as BindRefusal, missing_parameter, model_text, outside_domain, over_limit, parameter_text, solution_text, undefined_at, where_false}
+use Rattle.ep_tree.specs.Faults.{Fault, ill_typed, open_domain, redeclared, unknown_name, wrong_category}
+use Rattle.ep_types_rules.specs.Named.{IsAmongFaults, fault_of}
+use Rattle.ep_types_rules.specs.declared.errors.StaticError.{StaticError}
+use Rattle.ep_driver.specs.Outcomes.{as_outcome, bind_refusal, bind_refusals, fault_refusal, fault_refusals, file_of}
+use Rattle.ep_files.specs.Status.{status_of}
+use Rattle.ep_driver.specs.Steps.{Passes, Tells}
+use Rattle.ep_driver.specs.Stops.{bind_stop, static_stop}
 use Rattle.ep_driver.proofs.Refusing.{contains-map}
 
 -- an error of types or categories names one of the faults

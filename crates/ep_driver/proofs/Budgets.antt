@@ -1,5 +1,16 @@
 -- What a spent budget tells of the log.
-use Rattle.ep_driver.proofs.Words.{◌≡◌, ◌∙◌, ◌≢◌, ℕ, ◌<◌, ◌≤◌, ◌^◌, List, [], ◌∷◌, ◌++◌, length, Option, sym, subst, refl, arith, append_assoc, append-nil, All-head, All-tail, Literal, EachStep, LogEvent, LogState, clauses_of, given, nonempty_steps, step, GivensNameOnly, IsEffectiveStep, IsValidStep, NonEmptyStepsAreEffective, NonEmptyStepsAreNew, IsBelowPower, MeetsConflict, before_steps, Want, IsSearchFor, IsSpent, NoneIsEmpty, Wanted}
+use Rattle.std.proofs.Common.{◌≡◌, ◌∙◌, ◌≢◌, ℕ, ◌<◌, ◌≤◌, ◌^◌, List, [], ◌∷◌, ◌++◌, length, Option, sym, subst, refl, arith, append_assoc}
+use Rattle.std.proofs.lemmas.List.{append-nil}
+use Rattle.std.proofs.lemmas.List.Elements.{All-head, All-tail}
+use Rattle.cnf_core.specs.Literal.{Literal}
+use Rattle.cnf_core.specs.Events.{EachStep, LogEvent, LogState, clauses_of, given, nonempty_steps, step}
+use Rattle.cnf_core.specs.Steps.{GivensNameOnly, IsEffectiveStep, IsValidStep, NonEmptyStepsAreEffective, NonEmptyStepsAreNew}
+use Rattle.ep_driver.specs.Budgets.{IsBelowPower, MeetsConflict, before_steps}
+use Rattle.ep_driver.specs.Commands.{Want}
+use Rattle.ep_driver.specs.Searches.{IsSearchFor}
+use Rattle.ep_solve.specs.Right.{IsSpent}
+use Rattle.sat_search.specs.Logs.{NoneIsEmpty}
+use Rattle.ep_driver.specs.declared.wanted.Wanted.{Wanted}
 use Rattle.ep_driver.proofs.Allowed.{wants-budget}
 use Rattle.ep_driver.proofs.Once.{WantOne}
 use Rattle.ep_driver.proofs.Promises.{Spends}

@@ -1,5 +1,11 @@
 -- A log whose last step is the empty one is verified.
-use Rattle.ep_driver.proofs.Words.{◌≡◌, ℕ, List, [], ◌∷◌, ◌++◌, sym, subst, LogEvent, givens, step, log_lines, IsValidLog, verdict_of, Verified, EndsWithEmptyStep}
+use Rattle.std.proofs.Common.{◌≡◌, ℕ, List, [], ◌∷◌, ◌++◌, sym, subst}
+use Rattle.cnf_core.specs.Events.{LogEvent, givens, step}
+use Rattle.cnf_core.specs.LogLines.{log_lines}
+use Rattle.cnf_core.specs.Steps.{IsValidLog}
+use Rattle.log_check.specs.Verdict.{verdict_of}
+use Rattle.log_check.specs.declared.Verdict.TheVariants.{Verified}
+use Rattle.sat_search.specs.Logs.{EndsWithEmptyStep}
 
 -- the law that a valid log which ends with the empty clause is verified
 abbrev pub EmptyVerifies : Type 0

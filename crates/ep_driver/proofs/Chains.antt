@@ -1,7 +1,20 @@
 -- From what is read to what comes out over the held files.
-use Rattle.ep_driver.proofs.Words.{◌≡◌, ℕ, ◌⊎◌, Bool, true, false, List, [], ◌∷◌, ◌++◌, Option, Some, None, option_to_list, Ok, Err, Result, IfSome, IsSomeAnd, bytes_eq, if◌then◌else◌, inl, inr, refl, sym, ap, subst, Contains-append_right, bytes_eq-Decides, LogState, Held, empty_log, TextFile, TextTree, Outcome, Task, AreParams, IsHeldReadBy, IsReadBy, IsTextReadAs, ReadsTexts, without, ThenShows, IsFailed, IsFaulty, TellsReply, TellsTask, IsUnread, TellsParams, TellsRead, Reply, Stop}
-use Rattle.std.proofs.Common.{Contains}
+use Rattle.std.proofs.Common.{◌≡◌, ℕ, ◌⊎◌, Bool, true, false, List, [], ◌∷◌, ◌++◌, Option, Some, None, option_to_list, Ok, Err, Result, Contains, IfSome, IsSomeAnd, bytes_eq, if◌then◌else◌, inl, inr, refl, sym, ap, subst}
+use Rattle.std.proofs.lemmas.List.Elements.{Contains-append_right}
+use Rattle.std.proofs.lemmas.Slice.Eq.{bytes_eq-Decides}
+use Rattle.cnf_core.specs.Events.{LogState}
+use Rattle.ep_base.specs.Outside.{Held}
+use Rattle.ep_solve.specs.Right.{empty_log}
 use Rattle.ep_print.specs.declared.refusals.Refusal.{Refusal}
+use Rattle.ep_print.specs.declared.refusals.TextFile.{TextFile}
+use Rattle.ep_tree.specs.Statements.{TextTree}
+use Rattle.ep_driver.specs.Outcomes.{Outcome, Task}
+use Rattle.ep_files.specs.Readings.{AreParams, IsHeldReadBy, IsReadBy, IsTextReadAs, ReadsTexts, without}
+use Rattle.ep_driver.specs.Shown.{ThenShows}
+use Rattle.ep_driver.specs.Steps.{IsFailed, IsFaulty, TellsReply, TellsTask}
+use Rattle.ep_files.specs.Reads.{IsUnread, TellsParams, TellsRead}
+use Rattle.ep_driver.specs.declared.replies.Reply.{Reply}
+use Rattle.ep_files.specs.declared.stops.Stop.{Stop}
 use Rattle.ep_driver.proofs.Refusing.{contains-first}
 
 -- what is read of held files

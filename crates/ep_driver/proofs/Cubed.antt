@@ -1,6 +1,19 @@
 -- Answers that come by cubes.
-use Rattle.ep_driver.proofs.Words.{◌≡◌, ◌⊎◌, ℕ, List, Option, Some, None, inl, inr, refl, LogState, IsLoggedAsDivided, ShowsInCubes, AnswerTree, answer_text, unknown_with, Stands, IsRight, IsSpent, Instance, Mode, IsSound, Settles, answer_status, conflicts_wanted, to_divide, IsSearchedFor, Request, Status}
-use Rattle.ep_print.specs.Answers.{no_solution, optimum, solution, unknown}
+use Rattle.std.proofs.Common.{◌≡◌, ◌⊎◌, ℕ, List, Option, Some, None, inl, inr, refl}
+use Rattle.cnf_core.specs.Events.{LogState}
+use Rattle.ep_divided.specs.Divided.{IsLoggedAsDivided, ShowsInCubes}
+use Rattle.ep_print.specs.Answers.{AnswerTree, answer_text, no_solution, optimum, solution, unknown, unknown_with}
+use Rattle.ep_solve.specs.Logged.{Stands}
+use Rattle.ep_solve.specs.Right.{IsRight, IsSpent}
+use Rattle.ep_tree.specs.Binding.{Instance}
+use Rattle.ep_tree.specs.declared.values.Mode.{Mode}
+use Rattle.sat_search.specs.Logs.{IsSound}
+use Rattle.ep_driver.specs.Answers.{Settles, answer_status}
+use Rattle.ep_driver.specs.Commands.{conflicts_wanted}
+use Rattle.ep_driver.specs.Outcomes.{to_divide}
+use Rattle.ep_driver.specs.Steps.{IsSearchedFor}
+use Rattle.ep_driver.specs.declared.wanted.Request.{Request}
+use Rattle.ep_files.specs.declared.status.Status.{Status}
 use Rattle.ep_driver.proofs.Tasks.{answer-ends}
 
 none-or : {A : Type 0} (o : Option A) → (o ≡ None) ⊎ (o ≡ None → ⊥)

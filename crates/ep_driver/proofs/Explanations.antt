@@ -1,6 +1,23 @@
 -- What is told of why an instance has no solution.
-use Rattle.ep_driver.proofs.Words.{◌≡◌, ◌∙◌, ◌⊎◌, ℕ, List, map, inl, inr, ap, LogState, IsRightExplanation, ends_spent, named_clause, Explained, explanation_text, IsTold, Told, ShowsAnswer, IsSpent, Instance, assigned, Mode, IsSound, Settles, explanation_status, spent_status, to_explain, IsExplanation, IsSearched, Status}
+use Rattle.std.proofs.Common.{◌≡◌, ◌∙◌, ◌⊎◌, ℕ, List, map, inl, inr, ap}
+use Rattle.cnf_core.specs.Events.{LogState}
+use Rattle.ep_explain.specs.Tried.{IsRightExplanation, ends_spent, named_clause}
+use Rattle.ep_explain.specs.declared.explaining.Explained.{Explained}
 use Rattle.ep_explain.specs.declared.explaining.Explained.TheVariants.{Core as NamedClauses, Satisfiable, Spent}
+use Rattle.ep_explain_text.specs.ExplanationTexts.{explanation_text}
+use Rattle.ep_explain_text.specs.Told.{IsTold}
+use Rattle.ep_explain_text.specs.declared.telling.Told.{Told}
+use Rattle.ep_solve.specs.Logged.{ShowsAnswer}
+use Rattle.ep_solve.specs.Right.{IsSpent}
+use Rattle.ep_tree.specs.Binding.{Instance}
+use Rattle.ep_tree.specs.Views.{assigned}
+use Rattle.ep_tree.specs.declared.values.Mode.{Mode}
+use Rattle.sat_search.specs.Logs.{IsSound}
+use Rattle.ep_driver.specs.Answers.{Settles, explanation_status, spent_status}
+use Rattle.ep_driver.specs.Outcomes.{to_explain}
+use Rattle.ep_driver.specs.Promised.{IsExplanation}
+use Rattle.ep_driver.specs.Steps.{IsSearched}
+use Rattle.ep_files.specs.declared.status.Status.{Status}
 use Rattle.ep_driver.proofs.Tasks.{searched}
 
 explained-spent : (mode : Mode) (i : Instance) (conflicts : ℕ) (log : LogState) (said : Explained) (status : Status) → status ≡ explanation_status said → IsRightExplanation mode i conflicts log said

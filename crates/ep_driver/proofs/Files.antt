@@ -1,6 +1,21 @@
 -- What stands in the files that words name for output.
-use Rattle.ep_driver.proofs.Words.{◌≡◌, ◌≢◌, ◌⊎◌, ℕ, List, [], ◌∷◌, ◌++◌, Option, Some, None, Ok, Bool, true, false, All, bytes_eq, option_map, if◌then◌else◌, IfSome, inl, inr, refl, sym, ap, subst, ◌∙◌, All-append, All-cons, All-nil, bytes_eq-Decides, LogState, Held, with_bytes, Settles, Want, Task, AreWritten, Content, IsFormulaText, IsStepsText, IsTextOf, Output, a_formula, an_answer, for_texts, steps, HasOutput, HoldsText, outputs_in_order, written_for, comes_to_generate, AnswersNumber, Status, Outputs, Request, Wanted, Mode}
-use Rattle.ep_outputs.specs.Outputs.{named}
+use Rattle.std.proofs.Common.{◌≡◌, ◌≢◌, ◌⊎◌, ℕ, List, [], ◌∷◌, ◌++◌, Option, Some, None, Ok, Bool, true, false, All, bytes_eq, option_map, if◌then◌else◌, IfSome, inl, inr, refl, sym, ap, subst, ◌∙◌}
+use Rattle.std.proofs.lemmas.List.Elements.{All-append, All-cons, All-nil}
+use Rattle.std.proofs.lemmas.Slice.Eq.{bytes_eq-Decides}
+use Rattle.cnf_core.specs.Events.{LogState}
+use Rattle.ep_base.specs.Outside.{Held, with_bytes}
+use Rattle.ep_driver.specs.Answers.{Settles}
+use Rattle.ep_driver.specs.Commands.{Want}
+use Rattle.ep_driver.specs.Outcomes.{Task}
+use Rattle.ep_outputs.specs.Outputs.{AreWritten, Content, IsFormulaText, IsStepsText, IsTextOf, Output, a_formula, an_answer, for_texts, named, steps}
+use Rattle.ep_driver.specs.Outputs.{HasOutput, HoldsText, outputs_in_order, written_for}
+use Rattle.ep_driver.specs.Shown.{comes_to_generate}
+use Rattle.ep_driver.specs.Steps.{AnswersNumber}
+use Rattle.ep_files.specs.declared.status.Status.{Status}
+use Rattle.ep_driver.specs.declared.wanted.Outputs.{Outputs}
+use Rattle.ep_driver.specs.declared.wanted.Request.{Request}
+use Rattle.ep_driver.specs.declared.wanted.Wanted.{Wanted}
+use Rattle.ep_tree.specs.declared.values.Mode.{Mode}
 use Rattle.ep_driver.proofs.Once.{WantOne}
 use Rattle.ep_driver.proofs.Written.{AllNamed, written-same}
 

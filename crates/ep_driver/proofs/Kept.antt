@@ -1,9 +1,45 @@
 -- What settles the task that words ask for is what a run promises.
-use Rattle.ep_driver.proofs.Words.{◌≡◌, ◌∙◌, ℕ, ℤ, ◌⊎◌, Bool, true, false, List, [], ◌∷◌, Option, Some, None, Ok, Err, Result, IfSome, inl, inr, refl, sym, ap, subst, LogState, ProofLine, Literal, some_is, Held, Name, AnswerTree, unknown_with, EndTree, complete, spent, stopped, TextFile, known_as_bound, made_as_bound, GivesAssignment, IsSolutionOf, IsTrueOf, LacksNone, SpellsGiven, EndsRightly, HasGoal, IsRight, lettings_of, params_faults, text_faults, nothing_known, fits, read_solution, shaped, shaped_by, with_lettings, wrong_shape, Assigned, Found, IsSolution, IsWritten, a_solution, goal_value, has_goal_value, judged_by, judgement, violated, TextTree, Answers, SpellsText, TextAnswer, bad_byte, long_number, read_as, syntax_fault, too_high, too_long, Mode, verified_has_no_solution, verdict_of, Verdict, Verified, BadStep, NoEmptyClause, SpellsCnf, Settles, judgement_status, verdict_status, judgement_text, verdict_text, Want, Outcome, Task, as_outcome, fault_refusals, instance_of, search_outcome, searched_task, to_check, to_judge, to_solve_opb, verify_outcome, FilesMake, HoldsGiven, IsPromised, AreParams, IsFormulaReadAs, IsHeldReadBy, IsFileReadAs, IsProofReadAs, IsReadBy, IsTextReadAs, SpellsFormulaClauses, spells_in, tree_or_refusal, Ask, ComesTo, IsOpbTextReadAs, ThenShows, comes_to_check, comes_to_judge, comes_to_search, comes_to_verify, is_opb_task, Status, Request, Wanted, OpbContent, SpellsOpb}
-use Rattle.ep_print.specs.Answers.{no_solution, optimum, solution, unknown}
+use Rattle.std.proofs.Common.{◌≡◌, ◌∙◌, ℕ, ℤ, ◌⊎◌, Bool, true, false, List, [], ◌∷◌, Option, Some, None, Ok, Err, Result, IfSome, inl, inr, refl, sym, ap, subst}
+use Rattle.cnf_core.specs.Events.{LogState}
+use Rattle.cnf_core.specs.Lines.{ProofLine}
+use Rattle.cnf_core.specs.Literal.{Literal}
+use Rattle.ep_base.proofs.Small.{some_is}
+use Rattle.ep_base.specs.Outside.{Held}
+use Rattle.ep_base.specs.declared.names.Name.{Name}
+use Rattle.ep_print.specs.Answers.{AnswerTree, no_solution, optimum, solution, unknown, unknown_with}
+use Rattle.ep_print.specs.Listings.{EndTree, complete, spent, stopped}
 use Rattle.ep_print.specs.declared.refusals.Refusal.{Refusal}
+use Rattle.ep_print.specs.declared.refusals.TextFile.{TextFile}
+use Rattle.ep_promise.proofs.Made.{known_as_bound, made_as_bound}
+use Rattle.ep_promise.specs.Promise.{GivesAssignment, IsSolutionOf, IsTrueOf, LacksNone, SpellsGiven}
+use Rattle.ep_solve.specs.Listed.{EndsRightly}
+use Rattle.ep_solve.specs.Right.{HasGoal, IsRight}
 use Rattle.ep_tree.specs.Binding.{Instance, Refusal as BindRefusal, and_next, bind, bind_params, solution_text}
-use Rattle.ep_tree.specs.SolutionTexts.{Shaped}
+use Rattle.ep_tree.specs.Faults.{lettings_of, params_faults, text_faults}
+use Rattle.ep_tree.specs.Names.{nothing_known}
+use Rattle.ep_tree.specs.SolutionTexts.{Shaped, fits, read_solution, shaped, shaped_by, with_lettings, wrong_shape}
+use Rattle.ep_tree.specs.Solutions.{Assigned, Found, IsSolution, IsWritten, a_solution, goal_value, has_goal_value, judged_by, judgement, violated}
+use Rattle.ep_tree.specs.Statements.{TextTree}
+use Rattle.ep_tree.specs.Texts.{Answers, SpellsText, TextAnswer, bad_byte, long_number, read_as, syntax_fault, too_high, too_long}
+use Rattle.ep_tree.specs.declared.values.Mode.{Mode}
+use Rattle.log_check.proofs.Verified.{verified_has_no_solution}
+use Rattle.log_check.specs.Verdict.{verdict_of}
+use Rattle.log_check.specs.declared.Verdict.{Verdict}
+use Rattle.log_check.specs.declared.Verdict.TheVariants.{Verified, BadStep, NoEmptyClause}
+use Rattle.sat_text.specs.CnfGrammar.{SpellsCnf}
+use Rattle.ep_driver.specs.Answers.{Settles, judgement_status, verdict_status}
+use Rattle.ep_said.specs.Judgements.{judgement_text}
+use Rattle.ep_said.specs.Verdicts.{verdict_text}
+use Rattle.ep_driver.specs.Commands.{Want}
+use Rattle.ep_driver.specs.Outcomes.{Outcome, Task, as_outcome, fault_refusals, instance_of, search_outcome, searched_task, to_check, to_judge, to_solve_opb, verify_outcome}
+use Rattle.ep_driver.specs.Promised.{FilesMake, HoldsGiven, IsPromised}
+use Rattle.ep_files.specs.Readings.{AreParams, IsFormulaReadAs, IsHeldReadBy, IsFileReadAs, IsProofReadAs, IsReadBy, IsTextReadAs, SpellsFormulaClauses, spells_in, tree_or_refusal}
+use Rattle.ep_driver.specs.Shown.{Ask, ComesTo, IsOpbTextReadAs, ThenShows, comes_to_check, comes_to_judge, comes_to_search, comes_to_verify, is_opb_task}
+use Rattle.ep_files.specs.declared.status.Status.{Status}
+use Rattle.ep_driver.specs.declared.wanted.Request.{Request}
+use Rattle.ep_driver.specs.declared.wanted.Wanted.{Wanted}
+use Rattle.opb_text.specs.Contents.{OpbContent}
+use Rattle.opb_text.specs.Grammar.{SpellsOpb}
 use Rattle.ep_driver.proofs.Explanations.{explanation_true}
 use Rattle.ep_driver.proofs.Outcomes.{as_ok, bound_ok, never_refused, ok_is, then_ok, unless_ok}
 

@@ -23,4 +23,3 @@ mod Running
 mod Outcomes
 mod Noted
 mod Kept
-mod Words

@@ -1,6 +1,9 @@
 -- An instance within its limits.
-use Rattle.ep_driver.proofs.Words.{◌≡◌, ℕ, List, [], ◌∷◌, refl, IsWithinLimits, Instance, instance_limits, or_weight, Mode}
-use Rattle.ep_tree.specs.Binding.{Refusal}
+use Rattle.std.proofs.Common.{◌≡◌, ℕ, List, [], ◌∷◌, refl}
+use Rattle.ep_instance.specs.Judgements.{IsWithinLimits}
+use Rattle.ep_tree.specs.Binding.{Instance, Refusal}
+use Rattle.ep_tree.specs.Solutions.{instance_limits, or_weight}
+use Rattle.ep_tree.specs.declared.values.Mode.{Mode}
 
 first-none : (rs : List Refusal) (weight : ℕ) → or_weight rs weight ≡ [] → rs ≡ []
 unfolding or_weight

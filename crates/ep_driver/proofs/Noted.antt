@@ -1,5 +1,20 @@
 -- The notes of what a search leaves in a log can be read.
-use Rattle.ep_driver.proofs.Words.{◌≡◌, ℕ, List, [], ◌∷◌, All, Ok, Err, Result, IfOk, refl, sym, ap, subst, All-nil, LogState, Stands, empty_log, NotesCanBeRead, Instance, TextTree, IsSpellable, Mode, IsReadableNote, Settles, instance_of, searched_task, LogsInstance, Status, Request}
+use Rattle.std.proofs.Common.{◌≡◌, ℕ, List, [], ◌∷◌, All, Ok, Err, Result, IfOk, refl, sym, ap, subst}
+use Rattle.std.proofs.lemmas.List.Elements.{All-nil}
+use Rattle.cnf_core.specs.Events.{LogState}
+use Rattle.ep_solve.specs.Logged.{Stands}
+use Rattle.ep_solve.specs.Right.{empty_log}
+use Rattle.ep_solve_laws.specs.Noted.{NotesCanBeRead}
+use Rattle.ep_tree.specs.Binding.{Instance}
+use Rattle.ep_tree.specs.Statements.{TextTree}
+use Rattle.ep_tree.specs.Texts.{IsSpellable}
+use Rattle.ep_tree.specs.declared.values.Mode.{Mode}
+use Rattle.sat_text.specs.Writing.{IsReadableNote}
+use Rattle.ep_driver.specs.Answers.{Settles}
+use Rattle.ep_driver.specs.Outcomes.{instance_of, searched_task}
+use Rattle.ep_driver.specs.Searches.{LogsInstance}
+use Rattle.ep_files.specs.declared.status.Status.{Status}
+use Rattle.ep_driver.specs.declared.wanted.Request.{Request}
 use Rattle.ep_driver.proofs.Cubed.{divided-stands}
 use Rattle.ep_driver.proofs.Outcomes.{bound_ok}
 

@@ -1,8 +1,31 @@
 -- The words and the held files show one thing alone.
-use Rattle.ep_driver.proofs.Words.{◌≡◌, ℕ, ◌⊎◌, List, [], ◌∷◌, Option, Some, None, Ok, Err, Result, IfSome, inl, inr, sym, ap, subst, ◌∙◌, LogState, empty_log, Held, TextFile, Mode, generated_model, generated_params, TextTree, IsCommand, Job, Settles, IsJudgement, Want, wanted_of, Outcome, Task, opb_refusal, search_outcome, to_check, verify_outcome, HoldOnWant, AreParams, IsFormulaReadAs, IsHeldReadBy, IsProofReadAs, IsFileReadAs, IsReadBy, IsTextReadAs, ReadsTexts, spells_in, tree_or_refusal, Ask, ComesTo, IsOpbTextReadAs, Refuse, Show, ThenShows, comes_to_check, comes_to_judge, comes_to_parameters, comes_to_search, comes_to_verify, is_opb_task, HasReply, status_of, IsLogOf, LogsTask, Status, Request, Wanted, OpbComesTo, OpbRefusal, OpbContent, OneFormula, OneProof, formula-once, proof-once}
-use Rattle.std.proofs.Common.{Contains}
+use Rattle.std.proofs.Common.{◌≡◌, ℕ, ◌⊎◌, List, [], ◌∷◌, Option, Some, None, Ok, Err, Result, Contains, IfSome, inl, inr, sym, ap, subst, ◌∙◌}
+use Rattle.cnf_core.specs.Events.{LogState}
+use Rattle.ep_solve.specs.Right.{empty_log}
+use Rattle.ep_base.specs.Outside.{Held}
 use Rattle.ep_print.specs.declared.refusals.Refusal.{Refusal}
+use Rattle.ep_print.specs.declared.refusals.TextFile.{TextFile}
+use Rattle.ep_tree.specs.declared.values.Mode.{Mode}
+use Rattle.ep_gen.specs.Texts.{generated_model, generated_params}
+use Rattle.ep_tree.specs.Statements.{TextTree}
 use Rattle.ep_tree.specs.Texts.{Answers as TextAnswers, TextAnswer}
+use Rattle.ep_words.specs.Commands.{IsCommand}
+use Rattle.ep_words.specs.declared.job.Job.{Job}
+use Rattle.ep_driver.specs.Answers.{Settles}
+use Rattle.ep_driver.specs.Commands.{IsJudgement, Want, wanted_of}
+use Rattle.ep_driver.specs.Outcomes.{Outcome, Task, opb_refusal, search_outcome, to_check, verify_outcome}
+use Rattle.ep_driver.specs.Puts.{HoldOnWant}
+use Rattle.ep_files.specs.Readings.{AreParams, IsFormulaReadAs, IsHeldReadBy, IsProofReadAs, IsFileReadAs, IsReadBy, IsTextReadAs, ReadsTexts, spells_in, tree_or_refusal}
+use Rattle.ep_driver.specs.Shown.{Ask, ComesTo, IsOpbTextReadAs, Refuse, Show, ThenShows, comes_to_check, comes_to_judge, comes_to_parameters, comes_to_search, comes_to_verify, is_opb_task}
+use Rattle.ep_files.specs.Status.{HasReply, status_of}
+use Rattle.ep_driver.specs.Steps.{IsLogOf, LogsTask}
+use Rattle.ep_files.specs.declared.status.Status.{Status}
+use Rattle.ep_driver.specs.declared.wanted.Request.{Request}
+use Rattle.ep_driver.specs.declared.wanted.Wanted.{Wanted}
+use Rattle.opb_solve.specs.Replies.{OpbComesTo}
+use Rattle.opb_solve.specs.declared.replies.OpbRefusal.{OpbRefusal}
+use Rattle.opb_text.specs.Contents.{OpbContent}
+use Rattle.ep_files.proofs.OneReading.{OneFormula, OneProof, formula-once, proof-once}
 use Rattle.ep_driver.proofs.Promises.{ended-status, usage-told}
 use Rattle.ep_driver.proofs.Saying.{Case, answer, end-logs, faulty, no_command, unread, unwritten}
 
@@ -125,11 +148,6 @@ shown-once one texts words held a b g h =
 
 abbrev pub ShownOnce : List (List ℕ) → Type 0
 ShownOnce words = (held : Held) (a b : Outcome Task) → Show words held a → Show words held b → a ≡ b
-
--- texts that come to one thing each
-pub once-of : OneJob → OneAnswer TextFile.Model → OneAnswer TextFile.Params → OneAnswer TextFile.Solution → OneFormula → OneProof → OneComing → (words : List (List ℕ)) → ShownOnce words
-once-of job model params solution formula proof opb words =
-    shown-once job (record { model = model; params = params; solution = solution; formula = formula; proof = proof; opb = opb }) words
 
 asked-not-refused : (words : List (List ℕ)) → ShownOnce words → (held : Held) (task : Task) (r : Refusal) → Ask words held task → Refuse words held r → ⊥
 asked-not-refused words once held task r ask refuse =

@@ -1,9 +1,32 @@
 -- From what is replied to the text of a pseudo-Boolean problem to what a run tells of it.
-use Rattle.ep_driver.proofs.Words.{◌≡◌, ◌∙◌, ◌⊎◌, ℕ, ◌+◌, Bool, true, false, List, [], ◌∷◌, length, take, Option, Some, None, option_map, Ok, Err, Result, IfSome, IsSomeAnd, inl, inr, refl, sym, ap, subst, LogState, Held, ReadGives, IsCutAlike, longer, whole, IsHeldReadBy, IsReadBy, ReadsTexts, IsOfText, TellsBytes, TellsRead, status_of, Status, Stop, IsSpent, empty_log, IsSound, OpbFound, IsOpbLogged, ShowsOpb, IsOpbReply, OpbComesTo, RepliesToOpb, says_spent, OpbRefusal, OpbReply, OpbStop, OpbContent, Settles, opb_status, spent_status, Outcome, Task, opb_refusal, to_solve_opb, IsOpbTextReadAs, ThenShows, is_opb_task, EndsBy, IsSearched, OrUnlogged, TellsShown, TellsTask, opb_stop, Reply, most_opb_bytes}
+use Rattle.std.proofs.Common.{◌≡◌, ◌∙◌, ◌⊎◌, ℕ, ◌+◌, Bool, true, false, List, [], ◌∷◌, length, take, Option, Some, None, option_map, Ok, Err, Result, IfSome, IsSomeAnd, inl, inr, refl, sym, ap, subst}
+use Rattle.cnf_core.specs.Events.{LogState}
+use Rattle.ep_base.specs.Outside.{Held, ReadGives}
+use Rattle.ep_files.proofs.FileReading.{IsCutAlike, longer, whole}
+use Rattle.ep_files.specs.Readings.{IsHeldReadBy, IsReadBy, ReadsTexts}
+use Rattle.ep_files.specs.Reads.{IsOfText, TellsBytes, TellsRead}
+use Rattle.ep_files.specs.Status.{status_of}
+use Rattle.ep_files.specs.declared.status.Status.{Status}
+use Rattle.ep_files.specs.declared.stops.Stop.{Stop}
 use Rattle.ep_print.specs.declared.refusals.Refusal.{Refusal}
-use Rattle.opb_answer.specs.Answers.{no_solution, optimum, solution, unknown}
+use Rattle.ep_solve.specs.Right.{IsSpent, empty_log}
+use Rattle.sat_search.specs.Logs.{IsSound}
+use Rattle.opb_answer.specs.Answers.{OpbFound, no_solution, optimum, solution, unknown}
+use Rattle.opb_solve.specs.Logged.{IsOpbLogged, ShowsOpb}
+use Rattle.opb_solve.specs.Replies.{IsOpbReply, OpbComesTo, RepliesToOpb, says_spent}
+use Rattle.opb_solve.specs.declared.replies.OpbRefusal.{OpbRefusal}
+use Rattle.opb_solve.specs.declared.replies.OpbReply.{OpbReply}
+use Rattle.opb_solve.specs.declared.replies.OpbStop.{OpbStop}
+use Rattle.opb_text.specs.Contents.{OpbContent}
+use Rattle.ep_driver.specs.Answers.{Settles, opb_status, spent_status}
+use Rattle.ep_driver.specs.Outcomes.{Outcome, Task, opb_refusal, to_solve_opb}
+use Rattle.ep_driver.specs.Shown.{IsOpbTextReadAs, ThenShows, is_opb_task}
+use Rattle.ep_driver.specs.Steps.{EndsBy, IsSearched, OrUnlogged, TellsShown, TellsTask}
+use Rattle.ep_driver.specs.Stops.{opb_stop}
+use Rattle.ep_driver.specs.declared.replies.Reply.{Reply}
 use Rattle.ep_driver.proofs.Refusing.{contains-first}
 use Rattle.ep_driver.proofs.Tasks.{searched}
+use Rattle.opb_text.specs.Words.{most_opb_bytes}
 
 -- ---- from the bytes that were read to the file
 

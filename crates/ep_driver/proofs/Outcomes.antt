@@ -1,7 +1,10 @@
 -- What an outcome that is well came of.
-use Rattle.ep_driver.proofs.Words.{◌≡◌, ◌∙◌, List, [], ◌∷◌, Ok, Err, Result, refl, sym, ap, TextTree, Mode, Outcome, and_then, as_outcome, bound_outcome, instance_of, unless_refused}
+use Rattle.std.proofs.Common.{◌≡◌, ◌∙◌, List, [], ◌∷◌, Ok, Err, Result, refl, sym, ap}
 use Rattle.ep_print.specs.declared.refusals.Refusal.{Refusal}
 use Rattle.ep_tree.specs.Binding.{Instance, Refusal as BindRefusal, bind}
+use Rattle.ep_tree.specs.Statements.{TextTree}
+use Rattle.ep_tree.specs.declared.values.Mode.{Mode}
+use Rattle.ep_driver.specs.Outcomes.{Outcome, and_then, as_outcome, bound_outcome, instance_of, unless_refused}
 
 pub ok_is : {A E : Type 0} {x y : A} → ◌≡◌ {A = Result A E} (Ok x) (Ok y) → x ≡ y
 ok_is e = cc

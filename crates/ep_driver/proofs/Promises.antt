@@ -1,6 +1,26 @@
 -- What a run promises, by the cases of what is said.
-use Rattle.ep_driver.proofs.Words.{◌≡◌, ◌≢◌, ℕ, ◌⊎◌, List, [], ◌∷◌, length, take, Option, Some, None, Ok, Err, Result, IfOk, Bool, true, false, bytes_eq, if◌then◌else◌, IfSome, IsSomeAnd, inl, inr, refl, sym, ap, subst, ◌∙◌, arith, take_all, LogState, IsSpent, empty_log, Held, TookPart, with_more, IsSound, refusal_text, Settles, AreNoCommand, IsJudgement, Want, conflicts_wanted, Task, HasOutput, IsOutput, SameButOutput, written_for, HoldOnWant, IsDeviceLine, IsFailedRead, IsFailedWrite, IsShownText, MayBePut, TookFirst, read_line, IsSearchFor, Ask, Refuse, Refuses, HasReply, status_of, Memory, AnswersWords, IsEnd, IsOfText, Reply, Status, Wanted}
+use Rattle.std.proofs.Common.{◌≡◌, ◌≢◌, ℕ, ◌⊎◌, List, [], ◌∷◌, length, take, Option, Some, None, Ok, Err, Result, IfOk, Bool, true, false, bytes_eq, if◌then◌else◌, IfSome, IsSomeAnd, inl, inr, refl, sym, ap, subst, ◌∙◌, arith}
+use Rattle.std.proofs.lemmas.List.{take_all}
+use Rattle.cnf_core.specs.Events.{LogState}
+use Rattle.ep_solve.specs.Right.{IsSpent, empty_log}
+use Rattle.ep_base.specs.Outside.{Held, TookPart, with_more}
+use Rattle.sat_search.specs.Logs.{IsSound}
+use Rattle.ep_print.specs.Refusals.{refusal_text}
 use Rattle.ep_print.specs.declared.refusals.Refusal.{Refusal}
+use Rattle.ep_driver.specs.Answers.{Settles}
+use Rattle.ep_driver.specs.Commands.{AreNoCommand, IsJudgement, Want, conflicts_wanted}
+use Rattle.ep_driver.specs.Outcomes.{Task}
+use Rattle.ep_driver.specs.Outputs.{HasOutput, IsOutput, SameButOutput, written_for}
+use Rattle.ep_driver.specs.Puts.{HoldOnWant, IsDeviceLine, IsFailedRead, IsFailedWrite, IsShownText, MayBePut, TookFirst, read_line}
+use Rattle.ep_driver.specs.Searches.{IsSearchFor}
+use Rattle.ep_driver.specs.Shown.{Ask, Refuse, Refuses}
+use Rattle.ep_files.specs.Status.{HasReply, status_of}
+use Rattle.ep_base.specs.declared.errors.Memory.{Memory}
+use Rattle.ep_driver.specs.Steps.{AnswersWords, IsEnd}
+use Rattle.ep_files.specs.Reads.{IsOfText}
+use Rattle.ep_driver.specs.declared.replies.Reply.{Reply}
+use Rattle.ep_files.specs.declared.status.Status.{Status}
+use Rattle.ep_driver.specs.declared.wanted.Wanted.{Wanted}
 use Rattle.ep_driver.proofs.Refusing.{contains-first}
 use Rattle.ep_driver.proofs.Written.{failed-same, nothing-written, outputs-named, partly-same, same-self, written-same}
 use Rattle.ep_driver.proofs.Saying.{Case, answer, faulty, no_command, unread, unwritten}

@@ -1,5 +1,8 @@
 -- What a sink took of a line.
-use Rattle.ep_driver.proofs.Words.{◌≡◌, ℕ, List, length, take, Option, sym, subst, arith, take_all, TookPart, with_more, TookFirst}
+use Rattle.std.proofs.Common.{◌≡◌, ℕ, List, length, take, Option, sym, subst, arith}
+use Rattle.std.proofs.lemmas.List.{take_all}
+use Rattle.ep_base.specs.Outside.{TookPart, with_more}
+use Rattle.ep_driver.specs.Puts.{TookFirst}
 
 pub took-whole : (line : List ℕ) (before after : Option (List ℕ)) → after ≡ with_more line before → TookFirst line before after
 took-whole line before after h =

@@ -1,7 +1,9 @@
 -- Refusals that come first, and what comes after them.
-use Rattle.ep_driver.proofs.Words.{◌≡◌, ℕ, zero, suc, ◌<◌, List, [], ◌∷◌, map, length, Ok, Err, slice_index_or, refl, ap, ◌∙◌, arith, Contains-append_right, Outcome, and_then, unless_refused, IsAmong}
-use Rattle.std.proofs.Common.{Contains}
+use Rattle.std.proofs.Common.{◌≡◌, ℕ, zero, suc, ◌<◌, List, [], ◌∷◌, map, length, Ok, Err, Contains, slice_index_or, refl, ap, ◌∙◌, arith}
+use Rattle.std.proofs.lemmas.List.Elements.{Contains-append_right}
 use Rattle.ep_print.specs.declared.refusals.Refusal.{Refusal}
+use Rattle.ep_driver.specs.Outcomes.{Outcome, and_then, unless_refused}
+use Rattle.ep_driver.specs.Steps.{IsAmong}
 
 pub contains-first : {A : Type 0} (x : A) (xs : List A) → Contains (x ∷ xs) x
 contains-first x xs = (0, omega arith, refl)

@@ -1,11 +1,44 @@
 -- From what the steps of a run tell to what the run tells.
-use Rattle.ep_driver.proofs.Words.{◌≡◌, ℕ, List, [], ◌∷◌, ◌++◌, map, Option, Ok, Err, Result, IfOk, OnErr, inl, inr, refl, sym, ap, subst, ◌∙◌, append-nil, LogState, ProofLine, Literal, verdict_of, Verdict, BadStep, NoEmptyClause, Verified, Held, Memory, RefusesBinding, BindError, FitsIfShaped, ShapeAnswers, refusal_text, TextFile, params_faults, text_faults, fits, read_solution, wrong_shape, Assigned, Fits, Found, instance_limits, TextTree, Mode, empty_log, Settles, verdict_status, Outcome, Task, and_then, as_outcome, bind_refusal, bind_refusals, bound_outcome, fault_refusals, instance_of, judge_outcome, search_outcome, searched_task, to_check, to_judge, unless_refused, verify_outcome, status_of, wrong_shape_text, verdict_text, EndsAs, EndsBy, IsAmong, IsEnd, IsJudged, IsJudgedEnd, IsSearchedFor, LogsTask, Passes, SaysOfRun, Tells, TellsReply, TellsRun, TellsShape, TellsTask, shape_outcome, HasSoundSteps, LogsSoundly, bind_stop, IsSound, Reply, Status, Stop, Request, Wanted, HoldOnWant}
-use Rattle.std.proofs.Common.{Contains}
+use Rattle.std.proofs.Common.{◌≡◌, ℕ, List, [], ◌∷◌, ◌++◌, map, Option, Ok, Err, Result, IfOk, OnErr, Contains, inl, inr, refl, sym, ap, subst, ◌∙◌}
+use Rattle.std.proofs.lemmas.List.{append-nil}
+use Rattle.cnf_core.specs.Events.{LogState}
+use Rattle.cnf_core.specs.Lines.{ProofLine}
+use Rattle.cnf_core.specs.Literal.{Literal}
+use Rattle.log_check.specs.Verdict.{verdict_of}
+use Rattle.log_check.specs.declared.Verdict.{Verdict}
+use Rattle.log_check.specs.declared.Verdict.TheVariants.{BadStep, NoEmptyClause, Verified}
+use Rattle.ep_base.specs.Outside.{Held}
+use Rattle.ep_base.specs.declared.errors.Memory.{Memory}
+use Rattle.ep_instance_parts.specs.Refusals.{RefusesBinding}
+use Rattle.ep_instance_parts.specs.declared.errors.BindError.{BindError}
+use Rattle.ep_instance.specs.Judgements.{FitsIfShaped, ShapeAnswers}
 use Rattle.ep_instance.specs.declared.judging.Shaped.{Shaped as CodeShaped}
+use Rattle.ep_print.specs.Refusals.{refusal_text}
 use Rattle.ep_print.specs.declared.refusals.Refusal.{Refusal}
+use Rattle.ep_print.specs.declared.refusals.TextFile.{TextFile}
 use Rattle.ep_tree.specs.Binding.{Instance, Refusal as BindRefusal}
-use Rattle.ep_tree.specs.SolutionTexts.{Shaped}
+use Rattle.ep_tree.specs.Faults.{params_faults, text_faults}
+use Rattle.ep_tree.specs.SolutionTexts.{Shaped, fits, read_solution, wrong_shape}
+use Rattle.ep_tree.specs.Solutions.{Assigned, Fits, Found, instance_limits}
+use Rattle.ep_tree.specs.Statements.{TextTree}
+use Rattle.ep_tree.specs.declared.values.Mode.{Mode}
+use Rattle.ep_solve.specs.Right.{empty_log}
+use Rattle.ep_driver.specs.Answers.{Settles, verdict_status}
+use Rattle.ep_driver.specs.Outcomes.{Outcome, Task, and_then, as_outcome, bind_refusal, bind_refusals, bound_outcome, fault_refusals, instance_of, judge_outcome, search_outcome, searched_task, to_check, to_judge, unless_refused, verify_outcome}
+use Rattle.ep_files.specs.Status.{status_of}
+use Rattle.ep_said.specs.Judgements.{wrong_shape_text}
+use Rattle.ep_said.specs.Verdicts.{verdict_text}
+use Rattle.ep_driver.specs.Steps.{EndsAs, EndsBy, IsAmong, IsEnd, IsJudged, IsJudgedEnd, IsSearchedFor, LogsTask, Passes, SaysOfRun, Tells, TellsReply, TellsRun, TellsShape, TellsTask, shape_outcome}
+use Rattle.ep_driver.specs.Searches.{HasSoundSteps, LogsSoundly}
+use Rattle.ep_driver.specs.Stops.{bind_stop}
+use Rattle.sat_search.specs.Logs.{IsSound}
+use Rattle.ep_driver.specs.declared.replies.Reply.{Reply}
+use Rattle.ep_files.specs.declared.status.Status.{Status}
+use Rattle.ep_files.specs.declared.stops.Stop.{Stop}
+use Rattle.ep_driver.specs.declared.wanted.Request.{Request}
+use Rattle.ep_driver.specs.declared.wanted.Wanted.{Wanted}
 use Rattle.ep_driver.proofs.Binding.{bind-stopped}
+use Rattle.ep_driver.specs.Puts.{HoldOnWant}
 use Rattle.ep_driver.proofs.Saying.{holds-refused, holds-wanting, nothing-logs, nothing-sound, nothing-soundly, nothing-steps, refused-asked, said-refusal, wanting-asked}
 use Rattle.ep_driver.proofs.Tasks.{AreAllFaultless, AreFaultless, bound-refused, is-judge, is-search, is-verify, limits-refused, shape-refused, search-instance, search-model, search-params, judge-ends, verify-instance, verify-model, verify-params, verify-solution}
 

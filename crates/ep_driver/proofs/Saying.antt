@@ -1,6 +1,29 @@
 -- From what is said to the words to what a run promises.
-use Rattle.ep_driver.proofs.Words.{◌≡◌, ℕ, ◌⊎◌, List, [], ◌∷◌, Option, Some, None, Ok, Err, Result, IfSome, IsSomeAnd, inl, inr, refl, sym, ap, subst, ◌∙◌, LogEvent, LogState, IsValidLog, NonEmptyStepsAreNew, Held, refusal_text, IsSound, empty_log, Settles, AreNoCommand, Want, files_of, Task, AreWritten, ArePartlyWritten, FailsAt, Output, written_for, HoldOnWant, IsAnsweredBy, IsFailedRead, IsFailedWrite, read_line, write_line, AskForCubes, HasSoundSteps, LogsSoundly, Ask, ComesTo, Refuse, status_of, EndsAs, HasAnswer, IsAnswer, IsEnd, IsFailed, IsFaulty, IsLogOf, IsRefused, IsShown, IsSoundRun, IsUnwritten, LogsTask, SaysOfRun, TellsRun, TellsTask, TellsWanted, IsOfText, TellsWritten, Reply, Status, Stop, Request, Wanted}
+use Rattle.std.proofs.Common.{◌≡◌, ℕ, ◌⊎◌, List, [], ◌∷◌, Option, Some, None, Ok, Err, Result, IfSome, IsSomeAnd, inl, inr, refl, sym, ap, subst, ◌∙◌}
+use Rattle.cnf_core.specs.Events.{LogEvent, LogState}
+use Rattle.cnf_core.specs.Steps.{IsValidLog, NonEmptyStepsAreNew}
+use Rattle.ep_base.specs.Outside.{Held}
+use Rattle.ep_print.specs.Refusals.{refusal_text}
 use Rattle.ep_print.specs.declared.refusals.Refusal.{Refusal}
+use Rattle.sat_search.specs.Logs.{IsSound}
+use Rattle.ep_solve.specs.Right.{empty_log}
+use Rattle.ep_driver.specs.Answers.{Settles}
+use Rattle.ep_driver.specs.Commands.{AreNoCommand, Want, files_of}
+use Rattle.ep_driver.specs.Outcomes.{Task}
+use Rattle.ep_outputs.specs.Outputs.{AreWritten, ArePartlyWritten, FailsAt, Output}
+use Rattle.ep_driver.specs.Outputs.{written_for}
+use Rattle.ep_driver.specs.Puts.{HoldOnWant, IsAnsweredBy, IsFailedRead, IsFailedWrite, read_line, write_line}
+use Rattle.ep_driver.specs.Searches.{AskForCubes, HasSoundSteps, LogsSoundly}
+use Rattle.ep_driver.specs.Shown.{Ask, ComesTo, Refuse}
+use Rattle.ep_files.specs.Status.{status_of}
+use Rattle.ep_driver.specs.Steps.{EndsAs, HasAnswer, IsAnswer, IsEnd, IsFailed, IsFaulty, IsLogOf, IsRefused, IsShown, IsSoundRun, IsUnwritten, LogsTask, SaysOfRun, TellsRun, TellsTask, TellsWanted}
+use Rattle.ep_files.specs.Reads.{IsOfText}
+use Rattle.ep_outputs.specs.Writes.{TellsWritten}
+use Rattle.ep_driver.specs.declared.replies.Reply.{Reply}
+use Rattle.ep_files.specs.declared.status.Status.{Status}
+use Rattle.ep_files.specs.declared.stops.Stop.{Stop}
+use Rattle.ep_driver.specs.declared.wanted.Request.{Request}
+use Rattle.ep_driver.specs.declared.wanted.Wanted.{Wanted}
 use Rattle.ep_driver.proofs.Refusing.{contains-first}
 
 -- ---- the log

@@ -1,6 +1,16 @@
 -- From the texts of a number to what a run tells of them.
-use Rattle.ep_driver.proofs.Words.{◌≡◌, ℕ, List, [], ◌∷◌, Option, Some, None, Ok, Err, Result, IfOk, inl, inr, refl, sym, LogState, Held, empty_log, Outcome, Task, ReadsTexts, ThenShows, comes_to_generate, AnswersNumber, TellsReply, TellsShown, TellsTask, TellsText, Reply, Stop}
+use Rattle.std.proofs.Common.{◌≡◌, ℕ, List, [], ◌∷◌, Option, Some, None, Ok, Err, Result, IfOk, inl, inr, refl, sym}
+use Rattle.cnf_core.specs.Events.{LogState}
+use Rattle.ep_base.specs.Outside.{Held}
 use Rattle.ep_print.specs.declared.refusals.Refusal.{Refusal}
+use Rattle.ep_solve.specs.Right.{empty_log}
+use Rattle.ep_driver.specs.Outcomes.{Outcome, Task}
+use Rattle.ep_files.specs.Readings.{ReadsTexts}
+use Rattle.ep_driver.specs.Shown.{ThenShows, comes_to_generate}
+use Rattle.ep_driver.specs.Steps.{AnswersNumber, TellsReply, TellsShown, TellsTask}
+use Rattle.ep_files.specs.Reads.{TellsText}
+use Rattle.ep_driver.specs.declared.replies.Reply.{Reply}
+use Rattle.ep_files.specs.declared.stops.Stop.{Stop}
 use Rattle.ep_driver.proofs.Refusing.{contains-first}
 
 -- what is told of what texts show is told over held files

@@ -1,9 +1,26 @@
 -- What the steps over trees come to, one after another.
-use Rattle.ep_driver.proofs.Words.{◌≡◌, ℕ, ◌⊎◌, List, [], Ok, inl, inr, ◌∙◌, LogState, TextFile, Instance, params_faults, text_faults, fits, wrong_shape, Assigned, Judgement, a_solution, goal_undefined, instance_limits, judgement, violates, TextTree, Mode, AnswerTree, answer_text, unknown_with, EndTree, ListingTree, complete, listing_text, spent, stopped, EndsRightly, Lists, IsLogged, ShowsAnswer, IsRight, IsSpent, IsSound, Settles, answer_status, judgement_status, listing_status, and_then, bind_refusals, bound_outcome, fault_refusals, instance_of, judge_outcome, search_outcome, searched_task, to_generate, to_judge, to_list, to_solve, verify_outcome, IsAmong, IsSearched, shape_outcome, summary_text, Status, Request}
-use Rattle.std.proofs.Common.{Contains}
+use Rattle.std.proofs.Common.{◌≡◌, ℕ, ◌⊎◌, List, [], Ok, Contains, inl, inr, ◌∙◌}
+use Rattle.cnf_core.specs.Events.{LogState}
 use Rattle.ep_print.specs.declared.refusals.Refusal.{Refusal}
-use Rattle.ep_tree.specs.SolutionTexts.{Shaped}
-use Rattle.ep_print.specs.Answers.{no_solution, optimum, solution, unknown}
+use Rattle.ep_print.specs.declared.refusals.TextFile.{TextFile}
+use Rattle.ep_tree.specs.Binding.{Instance}
+use Rattle.ep_tree.specs.Faults.{params_faults, text_faults}
+use Rattle.ep_tree.specs.SolutionTexts.{Shaped, fits, wrong_shape}
+use Rattle.ep_tree.specs.Solutions.{Assigned, Judgement, a_solution, goal_undefined, instance_limits, judgement, violates}
+use Rattle.ep_tree.specs.Statements.{TextTree}
+use Rattle.ep_tree.specs.declared.values.Mode.{Mode}
+use Rattle.ep_print.specs.Answers.{AnswerTree, answer_text, no_solution, optimum, solution, unknown, unknown_with}
+use Rattle.ep_print.specs.Listings.{EndTree, ListingTree, complete, listing_text, spent, stopped}
+use Rattle.ep_solve.specs.Listed.{EndsRightly, Lists}
+use Rattle.ep_solve.specs.Logged.{IsLogged, ShowsAnswer}
+use Rattle.ep_solve.specs.Right.{IsRight, IsSpent}
+use Rattle.sat_search.specs.Logs.{IsSound}
+use Rattle.ep_driver.specs.Answers.{Settles, answer_status, judgement_status, listing_status}
+use Rattle.ep_driver.specs.Outcomes.{and_then, bind_refusals, bound_outcome, fault_refusals, instance_of, judge_outcome, search_outcome, searched_task, to_generate, to_judge, to_list, to_solve, verify_outcome}
+use Rattle.ep_driver.specs.Steps.{IsAmong, IsSearched, shape_outcome}
+use Rattle.ep_said.specs.Summaries.{summary_text}
+use Rattle.ep_files.specs.declared.status.Status.{Status}
+use Rattle.ep_driver.specs.declared.wanted.Request.{Request}
 use Rattle.ep_driver.proofs.Refusing.{among-first, among-later, among-next, among-then, none-refused, then-next}
 
 -- no fault stands in a model and its parameters

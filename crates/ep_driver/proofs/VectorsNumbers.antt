@@ -1,6 +1,11 @@
 -- Worked examples of what is wanted of the texts of a number, computed by the checker.
-use Rattle.ep_driver.proofs.Words.{◌≡◌, ℕ, List, [], ◌∷◌, codes, Some, None, refl, generated_model, generated_params, Job, wanted_of, a_text, for_texts, written_for, Wanted}
-use Rattle.ep_outputs.specs.Outputs.{named}
+use Rattle.std.proofs.Common.{◌≡◌, ℕ, List, [], ◌∷◌, codes, Some, None, refl}
+use Rattle.ep_gen.specs.Texts.{generated_model, generated_params}
+use Rattle.ep_words.specs.declared.job.Job.{Job}
+use Rattle.ep_driver.specs.Commands.{wanted_of}
+use Rattle.ep_outputs.specs.Outputs.{a_text, for_texts, named}
+use Rattle.ep_driver.specs.Outputs.{written_for}
+use Rattle.ep_driver.specs.declared.wanted.Wanted.{Wanted}
 
 abbrev file : List ℕ
 file = codes "file"

@@ -1,8 +1,26 @@
 -- Worked examples of what commands want, of what texts come to, and of how runs end, computed by the checker.
-use Rattle.ep_driver.proofs.Words.{◌≡◌, ℕ, List, [], ◌∷◌, codes, Some, None, Err, refl, Place, TextFile, complete, spent, stopped, a_solution, goal_undefined, violates, TextTree, constraints, letting, ExprTree, Mode, clause_faults, declaration_faults, faults, faults_after, name_faults, params_faults, stated_faults, statement_faults, text_faults, type_fault, unless, is_letting, from_one, judge, named_type, Job, BadStep, NoEmptyClause, Verified, judgement_status, listing_status, verdict_status, no_outputs, one_within, wanted_of, outputs_in_order, fault_refusal, search_outcome, unless_refused, verify_outcome, exit_code, status_of, Request, Wanted}
+use Rattle.std.proofs.Common.{◌≡◌, ℕ, List, [], ◌∷◌, codes, Some, None, Err, refl}
+use Rattle.ep_base.specs.declared.places.Place.{Place}
 use Rattle.ep_print.specs.declared.refusals.Refusal.{Refusal}
-use Rattle.ep_tree.specs.Trees.{named}
+use Rattle.ep_print.specs.declared.refusals.TextFile.{TextFile}
+use Rattle.ep_print.specs.Listings.{complete, spent, stopped}
+use Rattle.ep_tree.specs.Solutions.{a_solution, goal_undefined, violates}
+use Rattle.ep_tree.specs.Statements.{TextTree, constraints, letting}
+use Rattle.ep_tree.specs.Trees.{ExprTree, named}
+use Rattle.ep_tree.specs.declared.values.Mode.{Mode}
+use Rattle.ep_tree.specs.Faults.{clause_faults, declaration_faults, faults, faults_after, name_faults, params_faults, stated_faults, statement_faults, text_faults, type_fault, unless}
+use Rattle.ep_tree.specs.StatementSpelling.{is_letting}
+use Rattle.ep_tree.specs.Types.{from_one, judge, named_type}
+use Rattle.ep_words.specs.declared.job.Job.{Job}
+use Rattle.log_check.specs.declared.Verdict.TheVariants.{BadStep, NoEmptyClause, Verified}
+use Rattle.ep_driver.specs.Answers.{judgement_status, listing_status, verdict_status}
+use Rattle.ep_driver.specs.Commands.{no_outputs, one_within, wanted_of}
 use Rattle.ep_outputs.specs.Outputs.{a_formula, an_answer, named as named_files, steps}
+use Rattle.ep_driver.specs.Outputs.{outputs_in_order}
+use Rattle.ep_driver.specs.Outcomes.{fault_refusal, search_outcome, unless_refused, verify_outcome}
+use Rattle.ep_files.specs.Status.{exit_code, status_of}
+use Rattle.ep_driver.specs.declared.wanted.Request.{Request}
+use Rattle.ep_driver.specs.declared.wanted.Wanted.{Wanted}
 
 -- ---- what is wanted
 

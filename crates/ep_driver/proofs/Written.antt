@@ -1,6 +1,14 @@
 -- What files that were written one after another leave as it was.
-use Rattle.ep_driver.proofs.Words.{◌≡◌, ℕ, List, [], ◌∷◌, ◌++◌, Option, Some, None, Bool, true, false, All, bytes_eq, option_map, if◌then◌else◌, inl, inr, refl, sym, ap, subst, ◌∙◌, All-append, All-cons, All-head, All-nil, All-tail, bytes_eq-Decides, LogState, Held, SameElsewhere, with_bytes, generated_model, generated_params, Want, ArePartlyWritten, AreWritten, Content, FailsAt, Output, a_formula, a_text, an_answer, for_texts, steps, IsOutput, SameBut, outputs_in_order, written_for, Wanted}
-use Rattle.ep_outputs.specs.Outputs.{named}
+use Rattle.std.proofs.Common.{◌≡◌, ℕ, List, [], ◌∷◌, ◌++◌, Option, Some, None, Bool, true, false, All, bytes_eq, option_map, if◌then◌else◌, inl, inr, refl, sym, ap, subst, ◌∙◌}
+use Rattle.std.proofs.lemmas.List.Elements.{All-append, All-cons, All-head, All-nil, All-tail}
+use Rattle.std.proofs.lemmas.Slice.Eq.{bytes_eq-Decides}
+use Rattle.cnf_core.specs.Events.{LogState}
+use Rattle.ep_base.specs.Outside.{Held, SameElsewhere, with_bytes}
+use Rattle.ep_gen.specs.Texts.{generated_model, generated_params}
+use Rattle.ep_driver.specs.Commands.{Want}
+use Rattle.ep_outputs.specs.Outputs.{ArePartlyWritten, AreWritten, Content, FailsAt, Output, a_formula, a_text, an_answer, for_texts, named, steps}
+use Rattle.ep_driver.specs.Outputs.{IsOutput, SameBut, outputs_in_order, written_for}
+use Rattle.ep_driver.specs.declared.wanted.Wanted.{Wanted}
 
 -- nothing is written where nothing is named
 pub nothing-written : (log : LogState) (answer : List ℕ) (wanted : Wanted) (told after : Option Held) → written_for wanted ≡ [] → AreWritten log answer (written_for wanted) told after → after ≡ told

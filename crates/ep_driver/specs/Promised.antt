@@ -76,5 +76,4 @@ IsPromised held (Wanted.Check formula proof workers) status text =
     (formula_text : List ℕ) × (held formula ≡ Some formula_text)
     × (vars : ℕ) × (clauses : List (List Literal)) × SpellsCnf formula_text vars clauses
     × ((s : ℕ → Bool) → ¬ Satisfies s clauses) × (status ≡ Status.Answered) × (text ≡ codes "$ verified\n")
-IsPromised held (Wanted.Search model params mode (Request.Generated number conflicts) outputs) status text = Unit {0}
-IsPromised held (Wanted.Generate number conflicts eprime param) status text = Unit {0}
+IsPromised held _ status text = Unit {0}

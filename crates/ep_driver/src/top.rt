@@ -53,8 +53,8 @@ pub fn run<R: Threads + Sync, F: Files, K: Sink>(
 ) -> Status
     requires empty { log.old ≡ empty_log }
     // The promise: where the files tell what they hold, what was put out with an answer, or with the best that was found until the
-    // conflicts were spent, is the text of what is true of the texts that the words name. It leaves open what the texts of
-    // a number are. All that follows says more.
+    // conflicts were spent, is the text of what is true of the texts that the words name. It leaves open what a verdict on a proof
+    // and the texts of a number are. All that follows says more.
     ensures promised { (result ≡ StatusValue.Answered) ⊎ (result ≡ StatusValue.Unknown) →
         IfSome (F.held files.old) (λ held. (wanted : Wanted) × (text : List ℕ)
         × Want words.now wanted × IsPromised held wanted result text

@@ -1,4 +1,5 @@
-use Rattle.ep_driver.proofs.Words.{err_from_is_err_and, plain_instance, instance_mode}
+use Rattle.std.proofs.lemmas.Result.{err_from_is_err_and}
+use Rattle.ep_instance_parts.specs.Instances.{plain_instance, instance_mode}
 use Rattle.ep_driver.proofs.Explanations.{told-ends, told-settles}
 use Rattle.ep_driver.proofs.Saying.{nothing-sound}
 use Rattle.ep_driver.proofs.answering.explained_reply.Goals as goal

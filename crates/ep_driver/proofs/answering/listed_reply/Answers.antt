@@ -1,4 +1,5 @@
-use Rattle.ep_driver.proofs.Words.{plain_instance, instance_mode, listing_tree}
+use Rattle.ep_instance_parts.specs.Instances.{plain_instance, instance_mode}
+use Rattle.ep_print.specs.Listings.{listing_tree}
 use Rattle.ep_driver.proofs.Tasks.{list-ends, listed}
 use Rattle.ep_driver.proofs.answering.listed_reply.Goals as goal
 

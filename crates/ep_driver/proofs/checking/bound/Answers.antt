@@ -1,4 +1,10 @@
-use Rattle.ep_driver.proofs.Words.{Err, ap, sym, subst, plain_instance, bind, typed_params_tree, typed_tree, as_outcome, bound_outcome, Tells, Stop}
+use Rattle.std.proofs.Common.{Err, ap, sym, subst}
+use Rattle.ep_instance_parts.specs.Instances.{plain_instance}
+use Rattle.ep_tree.specs.Binding.{bind}
+use Rattle.ep_types.specs.Texts.{typed_params_tree, typed_tree}
+use Rattle.ep_driver.specs.Outcomes.{as_outcome, bound_outcome}
+use Rattle.ep_driver.specs.Steps.{Tells}
+use Rattle.ep_files.specs.declared.stops.Stop.{Stop}
 use Rattle.ep_driver.proofs.Binding.{bind-stopped}
 use Rattle.ep_driver.proofs.checking.bound.Goals as goal
 

@@ -1,4 +1,9 @@
-use Rattle.ep_driver.proofs.Words.{inr, refl, subst, IsCause, SizeError, plain_instance, instance_mode, instance_limits, status_of}
+use Rattle.std.proofs.Common.{inr, refl, subst}
+use Rattle.ep_size.specs.Causes.{IsCause}
+use Rattle.ep_size.specs.declared.errors.SizeError.{SizeError}
+use Rattle.ep_instance_parts.specs.Instances.{plain_instance, instance_mode}
+use Rattle.ep_tree.specs.Solutions.{instance_limits}
+use Rattle.ep_files.specs.Status.{status_of}
 use Rattle.ep_driver.proofs.Binding.{limit-passed}
 use Rattle.ep_driver.proofs.checking.check_limits.Goals as goal
 

@@ -1,4 +1,11 @@
-use Rattle.ep_driver.proofs.Words.{Err, sym, subst, TextFile, text_faults, model_tree, Typed, fault_refusals, Passes, Stop}
+use Rattle.std.proofs.Common.{Err, sym, subst}
+use Rattle.ep_print.specs.declared.refusals.TextFile.{TextFile}
+use Rattle.ep_tree.specs.Faults.{text_faults}
+use Rattle.ep_tree.specs.Views.{model_tree}
+use Rattle.ep_types.specs.declared.typed.Typed.{Typed}
+use Rattle.ep_driver.specs.Outcomes.{fault_refusals}
+use Rattle.ep_driver.specs.Steps.{Passes}
+use Rattle.ep_files.specs.declared.stops.Stop.{Stop}
 use Rattle.ep_driver.proofs.Binding.{static-stopped}
 use Rattle.ep_driver.proofs.checking.checked_model.Goals as goal
 

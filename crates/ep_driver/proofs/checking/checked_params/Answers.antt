@@ -1,4 +1,10 @@
-use Rattle.ep_driver.proofs.Words.{Err, sym, subst, params_faults, params_tree, TypedParams, fault_refusals, Passes, Stop}
+use Rattle.std.proofs.Common.{Err, sym, subst}
+use Rattle.ep_tree.specs.Faults.{params_faults}
+use Rattle.ep_tree.specs.Views.{params_tree}
+use Rattle.ep_types.specs.declared.typed.TypedParams.{TypedParams}
+use Rattle.ep_driver.specs.Outcomes.{fault_refusals}
+use Rattle.ep_driver.specs.Steps.{Passes}
+use Rattle.ep_files.specs.declared.stops.Stop.{Stop}
 use Rattle.ep_driver.proofs.Binding.{static-stopped}
 use Rattle.ep_driver.proofs.checking.checked_params.Goals as goal
 

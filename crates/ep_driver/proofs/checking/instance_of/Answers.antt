@@ -1,4 +1,11 @@
-use Rattle.ep_driver.proofs.Words.{err_from_is_err_and, ◌≡◌, [], Err, subst, plain_instance, instance_mode, instance_limits, Mode, typed_params_tree, typed_tree, bind_refusals, Passes}
+use Rattle.std.proofs.lemmas.Result.{err_from_is_err_and}
+use Rattle.std.proofs.Common.{◌≡◌, [], Err, subst}
+use Rattle.ep_instance_parts.specs.Instances.{plain_instance, instance_mode}
+use Rattle.ep_tree.specs.Solutions.{instance_limits}
+use Rattle.ep_tree.specs.declared.values.Mode.{Mode}
+use Rattle.ep_types.specs.Texts.{typed_params_tree, typed_tree}
+use Rattle.ep_driver.specs.Outcomes.{bind_refusals}
+use Rattle.ep_driver.specs.Steps.{Passes}
 use Rattle.ep_driver.proofs.Running.{bound-stopped, limits-stopped, none-passed}
 use Rattle.ep_driver.proofs.Tasks.{is-instance}
 use Rattle.ep_driver.proofs.checking.instance_of.Goals as goal

@@ -1,4 +1,16 @@
-use Rattle.ep_driver.proofs.Words.{err_from_is_err_and, ◌≡◌, ◌∙◌, ℕ, List, Ok, Err, inl, subst, generated_model, generated_params, TextFile, model_tree, params_tree, Mode, conflicts_wanted, search_outcome, IsTextReadAs, comes_to_parameters, IsSearched, TellsText, Request}
+use Rattle.std.proofs.lemmas.Result.{err_from_is_err_and}
+use Rattle.std.proofs.Common.{◌≡◌, ◌∙◌, ℕ, List, Ok, Err, inl, subst}
+use Rattle.ep_gen.specs.Texts.{generated_model, generated_params}
+use Rattle.ep_print.specs.declared.refusals.TextFile.{TextFile}
+use Rattle.ep_tree.specs.Views.{model_tree, params_tree}
+use Rattle.ep_tree.specs.declared.values.Mode.{Mode}
+use Rattle.ep_driver.specs.Commands.{conflicts_wanted}
+use Rattle.ep_driver.specs.Outcomes.{search_outcome}
+use Rattle.ep_files.specs.Readings.{IsTextReadAs}
+use Rattle.ep_driver.specs.Shown.{comes_to_parameters}
+use Rattle.ep_driver.specs.Steps.{IsSearched}
+use Rattle.ep_files.specs.Reads.{TellsText}
+use Rattle.ep_driver.specs.declared.wanted.Request.{Request}
 use Rattle.ep_driver.proofs.Noted.{without-premise}
 use Rattle.ep_driver.proofs.Running.{stopped-ends}
 use Rattle.ep_driver.proofs.Saying.{nothing-sound}

@@ -1,4 +1,4 @@
-use Rattle.ep_driver.proofs.Words.{plain_instance, instance_mode}
+use Rattle.ep_instance_parts.specs.Instances.{plain_instance, instance_mode}
 use Rattle.ep_driver.proofs.Limits.{within-limits}
 use Rattle.ep_driver.proofs.judging.judged.Goals as goal
 

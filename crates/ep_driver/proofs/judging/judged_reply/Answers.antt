@@ -1,5 +1,12 @@
-use Rattle.ep_driver.proofs.Words.{◌∙◌, Ok, inl, refl, ap, subst, err_from_is_err_and, plain_instance, instance_mode, typed_params_tree, assigned, wrong_shape_text, TellsShape, Status}
+use Rattle.std.proofs.Common.{◌∙◌, Ok, inl, refl, ap, subst}
+use Rattle.std.proofs.lemmas.Result.{err_from_is_err_and}
+use Rattle.ep_instance_parts.specs.Instances.{plain_instance, instance_mode}
 use Rattle.ep_instance.specs.declared.judging.Shaped.{Shaped}
+use Rattle.ep_types.specs.Texts.{typed_params_tree}
+use Rattle.ep_tree.specs.Views.{assigned}
+use Rattle.ep_said.specs.Judgements.{wrong_shape_text}
+use Rattle.ep_driver.specs.Steps.{TellsShape}
+use Rattle.ep_files.specs.declared.status.Status.{Status}
 use Rattle.ep_driver.proofs.Running.{fit-judged, shape-said, shape-stopped}
 use Rattle.ep_driver.proofs.judging.judged_reply.Goals as goal
 

@@ -1,4 +1,8 @@
-use Rattle.ep_driver.proofs.Words.{Err, sym, subst, plain_instance, instance_mode, typed_params_tree, TellsShape, Stop}
+use Rattle.std.proofs.Common.{Err, sym, subst}
+use Rattle.ep_instance_parts.specs.Instances.{plain_instance, instance_mode}
+use Rattle.ep_types.specs.Texts.{typed_params_tree}
+use Rattle.ep_driver.specs.Steps.{TellsShape}
+use Rattle.ep_files.specs.declared.stops.Stop.{Stop}
 use Rattle.ep_driver.proofs.Running.{shape-bound, shaped-tells}
 use Rattle.ep_driver.proofs.judging.shaped.Goals as goal
 

@@ -1,10 +1,16 @@
-use Rattle.ep_driver.proofs.Words.{err_from_is_err_and, ℕ, List, [], subst, Rose, OpbContent, IsOpbTextReadAs, ThenShows, is_opb_task, IsSearched, TellsShown, most_opb_bytes}
+use Rattle.std.proofs.lemmas.Result.{err_from_is_err_and}
+use Rattle.std.proofs.Common.{ℕ, List, [], subst}
 use Rattle.std.specs.declared.alloc.Global.{Global}
 use Rattle.std.specs.declared.vec.Vec.{Vec}
+use Rattle.ep_base.specs.Outside.{Rose}
+use Rattle.opb_text.specs.Contents.{OpbContent}
+use Rattle.ep_driver.specs.Shown.{IsOpbTextReadAs, ThenShows, is_opb_task}
+use Rattle.ep_driver.specs.Steps.{IsSearched, TellsShown}
 use Rattle.ep_driver.proofs.Chains.{unread}
 use Rattle.ep_driver.proofs.OpbReplies.{cut-opb, over-file, unread-stop}
 use Rattle.ep_driver.proofs.Running.{stopped-ends}
 use Rattle.ep_driver.proofs.opb.opb_file_reply.Goals as goal
+use Rattle.opb_text.specs.Words.{most_opb_bytes}
 
 pub returns-in_err-text-clause-tells : goal.returns-in_err-text-clause-tells
 returns-in_err-text-clause-tells g c =

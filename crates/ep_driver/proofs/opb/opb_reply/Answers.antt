@@ -1,4 +1,8 @@
-use Rattle.ep_driver.proofs.Words.{◌∙◌, Err, refl, sym, subst, Stop, IsSound, IsOpbTextReadAs, ThenShows, is_opb_task, EndsBy, IsSearched, TellsShown}
+use Rattle.std.proofs.Common.{◌∙◌, Err, refl, sym, subst}
+use Rattle.ep_files.specs.declared.stops.Stop.{Stop}
+use Rattle.sat_search.specs.Logs.{IsSound}
+use Rattle.ep_driver.specs.Shown.{IsOpbTextReadAs, ThenShows, is_opb_task}
+use Rattle.ep_driver.specs.Steps.{EndsBy, IsSearched, TellsShown}
 use Rattle.ep_driver.proofs.OpbReplies.{opb-answered, opb-ends, opb-stop-ends, opb-stopped}
 use Rattle.ep_driver.proofs.opb.opb_reply.Goals as goal
 

@@ -1,4 +1,8 @@
-use Rattle.ep_driver.proofs.Words.{Err, OnErr, Result, subst, Rose, LogsTask, TellsRun, Reply, Stop}
+use Rattle.std.proofs.Common.{Err, OnErr, Result, subst}
+use Rattle.ep_base.specs.Outside.{Rose}
+use Rattle.ep_driver.specs.Steps.{LogsTask, TellsRun}
+use Rattle.ep_driver.specs.declared.replies.Reply.{Reply}
+use Rattle.ep_files.specs.declared.stops.Stop.{Stop}
 use Rattle.ep_driver.proofs.Promises.{refused-unanswered}
 use Rattle.ep_driver.proofs.Running.{refused-asks, refused-holds, refused-said, run-asked}
 use Rattle.ep_driver.proofs.Saying.{holds-wanting, run-sound}

@@ -1,4 +1,12 @@
-use Rattle.ep_driver.proofs.Words.{err_from_is_err_and, ◌≡◌, ℕ, List, Ok, Err, refl, subst, rose_later, Rose, written_for, AnswersTexts, TellsWritten, Wanted, one_job}
+use Rattle.std.proofs.lemmas.Result.{err_from_is_err_and}
+use Rattle.std.proofs.Common.{◌≡◌, ℕ, List, Ok, Err, refl, subst}
+use Rattle.ep_base.proofs.PutSteps.{rose_later}
+use Rattle.ep_base.specs.Outside.{Rose}
+use Rattle.ep_driver.specs.Outputs.{written_for}
+use Rattle.ep_driver.specs.Steps.{AnswersTexts}
+use Rattle.ep_outputs.specs.Writes.{TellsWritten}
+use Rattle.ep_driver.specs.declared.wanted.Wanted.{Wanted}
+use Rattle.ep_words.proofs.SettingLaws.{one_job}
 use Rattle.ep_driver.proofs.Allowed.{wants-possible}
 use Rattle.ep_driver.proofs.Once.{want-once}
 use Rattle.ep_driver.proofs.Saying.{answered-run, refused-run, unread-words, unwritten-run}

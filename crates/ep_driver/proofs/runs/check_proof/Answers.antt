@@ -1,4 +1,11 @@
-use Rattle.ep_driver.proofs.Words.{err_from_is_err_and, ◌≡◌, [], ◌∷◌, Ok, inl, refl, Rose, empty_log, to_check, IsProofReadAs, IsReadBy, proof_lines, formula_clauses}
+use Rattle.std.proofs.lemmas.Result.{err_from_is_err_and}
+use Rattle.std.proofs.Common.{◌≡◌, [], ◌∷◌, Ok, inl, refl}
+use Rattle.ep_base.specs.Outside.{Rose}
+use Rattle.ep_solve.specs.Right.{empty_log}
+use Rattle.ep_driver.specs.Outcomes.{to_check}
+use Rattle.ep_files.specs.Readings.{IsProofReadAs, IsReadBy}
+use Rattle.sat_proof.specs.Lines.{proof_lines}
+use Rattle.ep_files.specs.Reads.{formula_clauses}
 use Rattle.ep_driver.proofs.Chains.{after, over-trees, stable-file, unread}
 use Rattle.ep_driver.proofs.Running.{check-told}
 use Rattle.ep_driver.proofs.runs.check_proof.Goals as goal

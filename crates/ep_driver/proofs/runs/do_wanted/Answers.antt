@@ -1,4 +1,19 @@
-use Rattle.ep_driver.proofs.Words.{err_from_is_err_and, [], ◌∷◌, ◌++◌, All, Err, IfOk, option_to_list, sym, subst, LogState, rose_later, Rose, TextFile, model_tree, files_of, IsFormulaReadAs, IsFileReadAs, IsReadBy, IsTextReadAs, ComesTo, comes_to_check, comes_to_generate, comes_to_search, comes_to_verify, CanBeWanted, NotesMayBeWritten, IsReadableNote, empty_log, AnswersTexts, EndsAs, TellsTask, formula_clauses, Wanted}
+use Rattle.std.proofs.lemmas.Result.{err_from_is_err_and}
+use Rattle.std.proofs.Common.{[], ◌∷◌, ◌++◌, All, Err, IfOk, option_to_list, sym, subst}
+use Rattle.cnf_core.specs.Events.{LogState}
+use Rattle.ep_base.proofs.PutSteps.{rose_later}
+use Rattle.ep_base.specs.Outside.{Rose}
+use Rattle.ep_print.specs.declared.refusals.TextFile.{TextFile}
+use Rattle.ep_tree.specs.Views.{model_tree}
+use Rattle.ep_driver.specs.Commands.{files_of}
+use Rattle.ep_files.specs.Readings.{IsFormulaReadAs, IsFileReadAs, IsReadBy, IsTextReadAs}
+use Rattle.ep_driver.specs.Shown.{ComesTo, comes_to_check, comes_to_generate, comes_to_search, comes_to_verify}
+use Rattle.ep_driver.specs.Searches.{CanBeWanted, NotesMayBeWritten}
+use Rattle.sat_text.specs.Writing.{IsReadableNote}
+use Rattle.ep_solve.specs.Right.{empty_log}
+use Rattle.ep_driver.specs.Steps.{AnswersTexts, EndsAs, TellsTask}
+use Rattle.ep_files.specs.Reads.{formula_clauses}
+use Rattle.ep_driver.specs.declared.wanted.Wanted.{Wanted}
 use Rattle.ep_driver.proofs.Allowed.{few-wanted}
 use Rattle.ep_driver.proofs.Chains.{after, stable-file, unread}
 use Rattle.ep_driver.proofs.Noted.{none-readable, with-premise}

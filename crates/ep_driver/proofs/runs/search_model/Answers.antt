@@ -1,4 +1,9 @@
-use Rattle.ep_driver.proofs.Words.{err_from_is_err_and, ◌≡◌, [], Err, option_to_list, Rose, model_tree, search_outcome, comes_to_search}
+use Rattle.std.proofs.lemmas.Result.{err_from_is_err_and}
+use Rattle.std.proofs.Common.{◌≡◌, [], Err, option_to_list}
+use Rattle.ep_base.specs.Outside.{Rose}
+use Rattle.ep_tree.specs.Views.{model_tree}
+use Rattle.ep_driver.specs.Outcomes.{search_outcome}
+use Rattle.ep_driver.specs.Shown.{comes_to_search}
 use Rattle.ep_driver.proofs.Chains.{unread-params}
 use Rattle.ep_driver.proofs.Running.{last-read, stopped-search}
 use Rattle.ep_driver.proofs.runs.search_model.Goals as goal

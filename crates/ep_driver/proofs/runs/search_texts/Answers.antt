@@ -1,4 +1,13 @@
-use Rattle.ep_driver.proofs.Words.{err_from_is_err_and, subst, plain_instance, model_tree, params_tree, Mode, typed_params_tree, typed_tree, Typed, TypedParams, Settles, searched_task}
+use Rattle.std.proofs.lemmas.Result.{err_from_is_err_and}
+use Rattle.std.proofs.Common.{subst}
+use Rattle.ep_instance_parts.specs.Instances.{plain_instance}
+use Rattle.ep_tree.specs.Views.{model_tree, params_tree}
+use Rattle.ep_tree.specs.declared.values.Mode.{Mode}
+use Rattle.ep_types.specs.Texts.{typed_params_tree, typed_tree}
+use Rattle.ep_types.specs.declared.typed.Typed.{Typed}
+use Rattle.ep_types.specs.declared.typed.TypedParams.{TypedParams}
+use Rattle.ep_driver.specs.Answers.{Settles}
+use Rattle.ep_driver.specs.Outcomes.{searched_task}
 use Rattle.ep_driver.proofs.Noted.{settled-readable}
 use Rattle.ep_driver.proofs.Running.{same-instance, search-answered, search-instance-stopped, search-model-stopped, search-params-stopped, search-wanting, stopped-search}
 use Rattle.ep_driver.proofs.Tasks.{AreFaultless}

@@ -1,4 +1,11 @@
-use Rattle.ep_driver.proofs.Words.{err_from_is_err_and, [], ◌∷◌, option_to_list, refl, rose_later, Rose, model_tree, params_tree, empty_log, AreParams, comes_to_judge}
+use Rattle.std.proofs.lemmas.Result.{err_from_is_err_and}
+use Rattle.std.proofs.Common.{[], ◌∷◌, option_to_list, refl}
+use Rattle.ep_base.proofs.PutSteps.{rose_later}
+use Rattle.ep_base.specs.Outside.{Rose}
+use Rattle.ep_tree.specs.Views.{model_tree, params_tree}
+use Rattle.ep_solve.specs.Right.{empty_log}
+use Rattle.ep_files.specs.Readings.{AreParams}
+use Rattle.ep_driver.specs.Shown.{comes_to_judge}
 use Rattle.ep_driver.proofs.Chains.{after, stable-params, unread-params}
 use Rattle.ep_driver.proofs.runs.verify_model.Goals as goal
 

@@ -1,4 +1,11 @@
-use Rattle.ep_driver.proofs.Words.{err_from_is_err_and, ◌≡◌, [], refl, Rose, TextFile, model_tree, params_tree, empty_log, verify_outcome, IsTextReadAs}
+use Rattle.std.proofs.lemmas.Result.{err_from_is_err_and}
+use Rattle.std.proofs.Common.{◌≡◌, [], refl}
+use Rattle.ep_base.specs.Outside.{Rose}
+use Rattle.ep_print.specs.declared.refusals.TextFile.{TextFile}
+use Rattle.ep_tree.specs.Views.{model_tree, params_tree}
+use Rattle.ep_solve.specs.Right.{empty_log}
+use Rattle.ep_driver.specs.Outcomes.{verify_outcome}
+use Rattle.ep_files.specs.Readings.{IsTextReadAs}
 use Rattle.ep_driver.proofs.Chains.{unread}
 use Rattle.ep_driver.proofs.Running.{reply-ends}
 use Rattle.ep_driver.proofs.runs.verify_solution.Goals as goal

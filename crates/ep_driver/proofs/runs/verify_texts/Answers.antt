@@ -1,4 +1,14 @@
-use Rattle.ep_driver.proofs.Words.{err_from_is_err_and, subst, plain_instance, model_tree, params_tree, Mode, typed_params_tree, typed_tree, Typed, TypedParams, empty_log, judge_outcome, TellsReply}
+use Rattle.std.proofs.lemmas.Result.{err_from_is_err_and}
+use Rattle.std.proofs.Common.{subst}
+use Rattle.ep_instance_parts.specs.Instances.{plain_instance}
+use Rattle.ep_tree.specs.Views.{model_tree, params_tree}
+use Rattle.ep_tree.specs.declared.values.Mode.{Mode}
+use Rattle.ep_types.specs.Texts.{typed_params_tree, typed_tree}
+use Rattle.ep_types.specs.declared.typed.Typed.{Typed}
+use Rattle.ep_types.specs.declared.typed.TypedParams.{TypedParams}
+use Rattle.ep_solve.specs.Right.{empty_log}
+use Rattle.ep_driver.specs.Outcomes.{judge_outcome}
+use Rattle.ep_driver.specs.Steps.{TellsReply}
 use Rattle.ep_driver.proofs.Running.{same-instance, verify-instance-stopped, verify-judged, verify-model-stopped, verify-params-stopped, verify-solution-stopped}
 use Rattle.ep_driver.proofs.Tasks.{AreAllFaultless, AreFaultless}
 use Rattle.ep_driver.proofs.runs.verify_texts.Goals as goal

@@ -1,4 +1,5 @@
-use Rattle.ep_driver.proofs.Words.{plain_instance, instance_mode, answer_tree}
+use Rattle.ep_instance_parts.specs.Instances.{plain_instance, instance_mode}
+use Rattle.ep_print.specs.Answers.{answer_tree}
 use Rattle.ep_driver.proofs.Tasks.{answer-ends, summed}
 use Rattle.ep_driver.proofs.summaries.summed_reply.Goals as goal
 

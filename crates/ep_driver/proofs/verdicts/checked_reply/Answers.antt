@@ -1,4 +1,5 @@
-use Rattle.ep_driver.proofs.Words.{proof_lines, formula_clauses}
+use Rattle.sat_proof.specs.Lines.{proof_lines}
+use Rattle.ep_files.specs.Reads.{formula_clauses}
 use Rattle.ep_driver.proofs.Running.{verdict-ends, verdict-said}
 use Rattle.ep_driver.proofs.verdicts.checked_reply.Goals as goal
 

@@ -1,4 +1,4 @@
-use Rattle.ep_driver.proofs.Words.{refl}
+use Rattle.std.proofs.Common.{refl}
 use Rattle.ep_driver.proofs.Wanting.{no-job}
 use Rattle.ep_driver.proofs.wanted.read_wanted.Goals as goal
 

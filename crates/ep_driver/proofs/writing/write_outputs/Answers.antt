@@ -1,5 +1,10 @@
-use Rattle.ep_driver.proofs.Words.{err_from_is_err_and, ◌++◌, Err, rose_later, Rose, a_formula, an_answer, steps, outputs_in_order, told-before, told-behind}
-use Rattle.ep_outputs.specs.Outputs.{named}
+use Rattle.std.proofs.lemmas.Result.{err_from_is_err_and}
+use Rattle.std.proofs.Common.{◌++◌, Err}
+use Rattle.ep_base.proofs.PutSteps.{rose_later}
+use Rattle.ep_base.specs.Outside.{Rose}
+use Rattle.ep_outputs.specs.Outputs.{a_formula, an_answer, named, steps}
+use Rattle.ep_driver.specs.Outputs.{outputs_in_order}
+use Rattle.ep_outputs.proofs.Telling.{told-before, told-behind}
 use Rattle.ep_driver.proofs.writing.write_outputs.Goals as goal
 
 pub returns-in_err-write_formula-clause-tells : goal.returns-in_err-write_formula-clause-tells

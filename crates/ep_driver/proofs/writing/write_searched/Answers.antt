@@ -1,5 +1,10 @@
-use Rattle.ep_driver.proofs.Words.{◌≡◌, refl, sym, subst, AreWritten, no_outputs, outputs_in_order, CanBeRequested, LogsInstance, Outputs, Request}
-use Rattle.ep_outputs.specs.Outputs.{named}
+use Rattle.std.proofs.Common.{◌≡◌, refl, sym, subst}
+use Rattle.ep_outputs.specs.Outputs.{AreWritten, named}
+use Rattle.ep_driver.specs.Commands.{no_outputs}
+use Rattle.ep_driver.specs.Outputs.{outputs_in_order}
+use Rattle.ep_driver.specs.Searches.{CanBeRequested, LogsInstance}
+use Rattle.ep_driver.specs.declared.wanted.Outputs.{Outputs}
+use Rattle.ep_driver.specs.declared.wanted.Request.{Request}
 use Rattle.ep_driver.proofs.writing.write_searched.Goals as goal
 
 pub write_outputs-requires : goal.write_outputs-requires

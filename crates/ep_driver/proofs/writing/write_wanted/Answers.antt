@@ -1,4 +1,10 @@
-use Rattle.ep_driver.proofs.Words.{refl, sym, subst, Rose, AreWritten, written_for, CanBeWanted, NotesMayBeWritten, TellsWritten, Wanted}
+use Rattle.std.proofs.Common.{refl, sym, subst}
+use Rattle.ep_base.specs.Outside.{Rose}
+use Rattle.ep_outputs.specs.Outputs.{AreWritten}
+use Rattle.ep_driver.specs.Outputs.{written_for}
+use Rattle.ep_driver.specs.Searches.{CanBeWanted, NotesMayBeWritten}
+use Rattle.ep_outputs.specs.Writes.{TellsWritten}
+use Rattle.ep_driver.specs.declared.wanted.Wanted.{Wanted}
 use Rattle.ep_driver.proofs.writing.write_wanted.Goals as goal
 
 pub returns-in-Search-clause-tells : goal.returns-in-Search-clause-tells
