@@ -23,18 +23,20 @@ pub fn formula_text(alloc: Global, log: &Log) -> Result<Vec<u8>, Memory>
     let formula = formula_of(alloc, &clauses, vars)?;
     let _names = formula.clauses();
     let added = added_number(log, &clauses);
+    if added > MOST_ADDED {
+        return Err(Memory);
+    }
     write_cnf(alloc, &formula, log.notes(), added)
 }
 
-/// How many of a log's givens were added to those that stand for the instance. No memory holds so many events that a line
-/// couldn't say it.
+/// The most that a line can say. No memory holds so many clauses.
+const MOST_ADDED: u64 = 999_999_999_999_999_999;
+
+/// How many of a log's givens were added to those that stand for the instance.
 fn added_number(log: &Log, clauses: &[Clause]) -> u64
     requires { clauses.now ≡ givens log.now.events }
-    ensures value { result ≡ length (added_clauses log.now) }
-    ensures short { result < 10 ^ 18 }
+    ensures { result ≡ length (added_clauses log.now) }
 {
-    // Shows how many events there can be.
-    let _count = log.events().len();
     clauses.len() as u64 - log.base()
 }
 

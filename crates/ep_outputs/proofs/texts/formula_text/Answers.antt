@@ -1,4 +1,4 @@
-use Rattle.std.proofs.Common.{◌≡◌, ◌≤◌, ◌∙◌, ℕ, All, List, ap, map, subst, sym}
+use Rattle.std.proofs.Common.{◌≡◌, ◌≤◌, ◌∙◌, ℕ, All, List, ap, arith, map, subst, sym}
 use Rattle.cnf_core.specs.Events.{Note, givens, plain_note}
 use Rattle.cnf_core.specs.Literal.{VariablesUpTo}
 use Rattle.ep_outputs.specs.Outputs.{NotesUpTo}
@@ -21,5 +21,5 @@ returns c =
     (c.fewest_variables-vars.ensures.least most (subst (All (VariablesUpTo most)) asked all) (plain-noted most kept (subst (NotesUpTo most) (sym same) up))) in
     text-told c.args.log.now f notes c.added_number-added.result c.write_cnf.result
     (given ∙ c.in_ok-clauses.ensures ∙ ap givens c.events.ensures.value)
-    c.clauses-names.ensures.names noted least c.notes-2.ensures c.requires.readable c.added_number-added.ensures.value c.added_number-added.ensures.short
+    c.clauses-names.ensures.names noted least c.notes-2.ensures c.requires.readable c.added_number-added.ensures (omega (arith, c.if-added-gt-MOST_ADDED.false))
     c.write_cnf.ensures.text c.write_cnf.ensures.again c.write_cnf.ensures.spells
